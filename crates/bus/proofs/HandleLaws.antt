@@ -1,0 +1,90 @@
+-- A telegram handled: what the loop over the meters and the queue come to.
+use mathlib.Core.Path.{_≡_, sym, ap, ap₂, _∙_}
+use mathlib.Core.Bool.{true, false}
+use mathlib.Core.List.{List, _++_, map}
+use Prim.Native.Nat.{ℕ, _+_, _-_, _≤_, _<_, min}
+use native.Mathlib.Omega.{arith}
+use borrow.Author.Tests.{lt-ltb, le-ltb}
+use lib.ListN.{length, take, length-take, length-append}
+use Rattle.laws.specs.Words.{if_then_else_}
+use Rattle.laws.proofs.Copy.{take-min}
+use Rattle.frame.specs.Frame.{Telegram}
+use Rattle.seconds.specs.Seconds.{elapsedOf}
+use Rattle.meter.specs.declared.Clock.{Clock}
+use Rattle.meter.specs.PlainMeter.{PlainMeter}
+use Rattle.meter.specs.Hear.{Heard, hear}
+use Rattle.bus.specs.declared.Segment.{Segment}
+use Rattle.bus.specs.declared.join.Joining.{Joining}
+use Rattle.bus.specs.Plain.{Plain, joined}
+use Rattle.bus.specs.Steps.{replies, toAll, heardBy, handled, withQueue}
+use Rattle.bus.specs.View.{plainOf}
+use Rattle.bus.specs.Joining.{lengthKept, bytesKept}
+use Rattle.bus.specs.Sending.{Gives}
+use Rattle.bus.proofs.JoiningLaws.{joined-is, length-kept}
+use Rattle.bus.proofs.SweepLaws.{Swept}
+
+-- a queue's length fits its array
+pub queue-fits : (s : Segment) → length (s .queue) ≡ 4096 → length (plainOf s .queue) ≡ min (s .queued) 4096
+unfolding plainOf
+queue-fits s l = length-take (s .queued) (s .queue) ∙ ap (min (s .queued)) l
+
+-- the segment with another queue
+abbrev pub queueing : List ℕ → ℕ → Segment → Segment
+queueing bytes n s =
+    record { meters = s .meters; count = s .count; baud = s .baud; origin = s .origin; input = s .input; waiting = s .waiting; queue = bytes; queued = n }
+
+module _ (tel : Telegram) (k : Clock) (s t : Segment) (kept : Joining) (bytes : List ℕ) (w : Swept (hear (s .baud) tel (elapsedOf (k .now) (s .origin)) k) s t kept bytes) (long : length (t .queue) ≡ 4096) where
+  abbrev f : PlainMeter → Heard
+  f = hear (s .baud) tel (elapsedOf (k .now) (s .origin)) k
+
+  abbrev after : Plain
+  after = handled tel k (plainOf s .input) (plainOf s)
+
+  abbrev rs : List (List ℕ)
+  rs = replies (map f (plainOf s .meters))
+
+  handled-is : after ≡ withQueue (if toAll tel then plainOf s .queue else plainOf s .queue ++ joined rs) (plainOf t)
+  unfolding handled heardBy plainOf
+  handled-is = ap (withQueue (if toAll tel then plainOf s .queue else plainOf s .queue ++ joined rs)) (sym (w .segment))
+
+  same-queue : plainOf t .queue ≡ plainOf s .queue
+  same-queue = ap (λ p. p .queue) (w .segment)
+
+  -- address FF
+  pub handled-all : true ≡ toAll tel → Gives after (record { full = false; segment = t })
+  handled-all e =
+      let v : after ≡ plainOf t =
+      handled-is
+      ∙ ap (λ b. withQueue (if b then plainOf s .queue else plainOf s .queue ++ joined rs) (plainOf t)) (sym e)
+      ∙ ap (λ q. withQueue q (plainOf t)) (sym same-queue) in
+      record { full = sym (le-ltb 4096 (length (after .queue)) (omega (arith, ap (λ p. length (p .queue)) v, queue-fits t long))); segment = λ z. sym v }
+
+  module _ (e : false ≡ toAll tel) (queued n : ℕ) (q : queued ≡ min (t .queued) 4096) (is : n ≡ lengthKept kept) where
+    joins-queue : after ≡ withQueue (plainOf t .queue ++ bytesKept kept bytes) (plainOf t)
+    joins-queue =
+        handled-is
+        ∙ ap (λ b. withQueue (if b then plainOf s .queue else plainOf s .queue ++ joined rs) (plainOf t)) (sym e)
+        ∙ ap₂ (λ x y. withQueue (x ++ y) (plainOf t)) (sym same-queue) (joined-is (w .joins))
+
+    long-queue : length (after .queue) ≡ queued + lengthKept kept
+    long-queue =
+        ap (λ p. length (p .queue)) joins-queue
+        ∙ length-append (plainOf t .queue) (bytesKept kept bytes)
+        ∙ ap₂ (λ x y. x + y) (queue-fits t long ∙ sym q) (length-kept (w .joins))
+
+    pub handled-full : 4096 - queued < n → Gives after (record { full = true; segment = t })
+    handled-full h =
+        record {
+          full = sym (lt-ltb 4096 (length (after .queue)) (omega (arith, long-queue)));
+          segment = λ z. let y : _≡_ {A = ℕ} 0 1 = cc in absurd (omega arith);
+        }
+
+    pub handled-fits : (new : List ℕ) → n ≤ 4096 - queued → take (queued + lengthKept kept) new ≡ take queued (t .queue) ++ bytesKept kept bytes
+        → Gives after (record { full = false; segment = queueing new (queued + n) t })
+    unfolding plainOf
+    handled-fits new h p =
+        let first : take queued (t .queue) ≡ plainOf t .queue = ap (λ n. take n (t .queue)) (q ∙ ap (min (t .queued)) (sym long)) ∙ take-min (t .queued) (t .queue) in
+        record {
+          full = sym (le-ltb 4096 (length (after .queue)) (omega (arith, long-queue)));
+          segment = λ z. ap (λ x. withQueue x (plainOf t)) (ap (λ m. take (queued + m) new) is ∙ p ∙ ap (λ x. x ++ bytesKept kept bytes) first) ∙ sym joins-queue;
+        }

@@ -1,0 +1,14 @@
+pub mod OpenLaws
+pub mod StayLaws
+pub mod BoundLaws
+pub mod BaudLaws
+pub mod SentLaws
+pub mod SettleLaws
+pub mod HandleLaws
+pub mod SweepLaws
+pub mod JoiningLaws
+pub mod OverlayLaws
+pub mod ReceiveLaws
+pub mod JoinLaws
+pub mod SendLaws
+pub mod Slips

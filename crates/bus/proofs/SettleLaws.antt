@@ -1,0 +1,120 @@
+-- The loop over the telegrams: what is left from here is the whole. Its turns, and its ways out.
+use mathlib.Core.Path.{_≡_, refl, sym, ap, _∙_}
+use mathlib.Core.Bool.{true, false}
+use mathlib.Core.List.{List, [], _++_}
+use Prim.Native.Nat.{ℕ, _+_, _-_, _≤_, _<_}
+use native.Mathlib.Omega.{arith}
+use borrow.Author.Tests.{lt-ltb, le-ltb, ltb-true}
+use lib.ListN.{length, take, drop, length-append, length-drop}
+use lib.Seq.{drop-drop, take-all}
+use Rattle.laws.specs.Words.{if_then_else_}
+use Rattle.laws.proofs.Lists.{if-all}
+use Rattle.frame.specs.Frame.{Telegram, Why, complete, incomplete, invalid, parse}
+use Rattle.frame.specs.declared.Frame.{Frame}
+use Rattle.frame.specs.declared.Why as declared-why
+use Rattle.frame.specs.declared.Outcome.{Outcome}
+use Rattle.frame.specs.declared.Outcome.the-variants.{Complete, Incomplete, Invalid}
+use Rattle.frame.specs.View.{telegramOf, dataAt, whyOf, parsedOf}
+use Rattle.frame.proofs.RoundTrip.{parse-back}
+use Rattle.meter.specs.declared.Clock.{Clock}
+use Rattle.bus.specs.declared.Segment.{Segment}
+use Rattle.bus.specs.declared.settle.Handled.{Handled}
+use Rattle.bus.specs.Plain.{Plain, joined}
+use Rattle.bus.specs.Steps.{replies, toAll, heardBy, handled, withInput, settled}
+use Rattle.bus.specs.View.{plainOf}
+use Rattle.bus.specs.Sending.{Gives}
+use Rattle.bus.proofs.SendLaws.{used-some, steps-keeps, settled-complete, settled-incomplete, settled-invalid}
+use Rattle.bus.proofs.HandleLaws.{queue-fits}
+
+-- ---- the queue only grows
+
+handled-grows : (t : Telegram) (k : Clock) (rest : List ℕ) (s : Plain) → length (s .queue) ≤ length (handled t k rest s .queue)
+unfolding handled
+handled-grows t k rest s =
+    if-all (λ q. length (s .queue) ≤ length q) (toAll t) (s .queue) (s .queue ++ joined (replies (heardBy t k s))) (omega arith)
+    (omega (arith, length-append (s .queue) (joined (replies (heardBy t k s)))))
+
+pub settled-grows : (k : Clock) (s : Plain) → length (s .queue) ≤ length (settled k s .queue)
+unfolding settled
+settled-grows k s =
+    steps-keeps (λ u. length (s .queue) ≤ length (u .queue)) (λ t k rest u h. let g = handled-grows t k rest u in omega arith) (λ u h. h) (length (s .input)) k s (omega arith)
+
+-- ---- the loop
+
+-- the segment with other input
+abbrev pub waiting : List ℕ → ℕ → Segment → Segment
+waiting bytes n s =
+    record { meters = s .meters; count = s .count; baud = s .baud; origin = s .origin; input = bytes; waiting = n; queue = s .queue; queued = s .queued }
+
+-- the bytes from pos on are left; before them t₀ became t
+pub record Left (k : Clock) (bytes : List ℕ) (t₀ : Segment) (pos : ℕ) (t : Segment) : Type 0 where
+  pub is : settled k (withInput (drop pos bytes) (plainOf t)) ≡ settled k (withInput bytes (plainOf t₀))
+
+module _ {k : Clock} {bytes : List ℕ} {t₀ : Segment} where
+  pub left-none : Left k bytes t₀ 0 t₀
+  left-none = record { is = refl }
+
+  module _ {pos : ℕ} {t : Segment} (l : Left k bytes t₀ pos t) where
+    module _ (tel : Telegram) (used : ℕ) (e : parse (drop pos bytes) ≡ complete tel used) where
+      taken : settled k (withInput (drop (pos + used) bytes) (handled tel k (plainOf t .input) (plainOf t))) ≡ settled k (withInput bytes (plainOf t₀))
+      unfolding handled heardBy
+      taken =
+          ap (λ x. settled k (withInput x (handled tel k (plainOf t .input) (plainOf t)))) (sym (drop-drop used pos bytes))
+          ∙ sym (settled-complete k (withInput (drop pos bytes) (plainOf t)) tel used e)
+          ∙ l .is
+
+      pub left-more : {h : Handled} → Gives (handled tel k (plainOf t .input) (plainOf t)) h → h .full ≡ false → Left k bytes t₀ (pos + used) (h .segment)
+      left-more g f = record { is = ap (λ x. settled k (withInput (drop (pos + used) bytes) x)) (g .segment f) ∙ taken }
+
+      -- the queue is too long already
+      pub left-full : {h : Handled} → Gives (handled tel k (plainOf t .input) (plainOf t)) h → h .full ≡ true → Gives (settled k (withInput bytes (plainOf t₀))) h
+      left-full {h} g f =
+          let p = handled tel k (plainOf t .input) (plainOf t) in
+          let long : 4096 < length (p .queue) = ltb-true 4096 (length (p .queue)) (sym (g .full) ∙ f) in
+          let more = settled-grows k (withInput (drop (pos + used) bytes) p) in
+          let w = ap (λ x. length (x .queue)) taken in
+          record {
+            full = f ∙ sym (lt-ltb 4096 (length (settled k (withInput bytes (plainOf t₀)) .queue)) (omega arith));
+            segment = λ z. let y : _≡_ {A = ℕ} 0 1 = cc in absurd (omega arith);
+          }
+
+    module _ (long : length (t .queue) ≡ 4096) where
+      -- what is left waits
+      pub left-waits : (new : List ℕ) (n : ℕ) → parse (drop pos bytes) ≡ incomplete → n ≡ length (drop pos bytes) → take (length (drop pos bytes)) new ≡ drop pos bytes
+          → Gives (settled k (withInput bytes (plainOf t₀))) (record { full = false; segment = waiting new n t })
+      unfolding plainOf
+      left-waits new n e m p =
+          let w : settled k (withInput bytes (plainOf t₀)) ≡ withInput (drop pos bytes) (plainOf t) = sym (l .is) ∙ settled-incomplete k (withInput (drop pos bytes) (plainOf t)) e in
+          record {
+            full = sym (le-ltb 4096 (length (settled k (withInput bytes (plainOf t₀)) .queue)) (omega (arith, ap (λ x. length (x .queue)) w, queue-fits t long)));
+            segment = λ z. ap (λ x. withInput x (plainOf t)) (ap (λ i. take i new) m ∙ p) ∙ sym w;
+          }
+
+      -- all remaining input is discarded
+      pub left-drops : (why : Why) → parse (drop pos bytes) ≡ invalid why → Gives (settled k (withInput bytes (plainOf t₀))) (record { full = false; segment = waiting (t .input) 0 t })
+      unfolding plainOf
+      left-drops why e =
+          let w : settled k (withInput bytes (plainOf t₀)) ≡ withInput [] (plainOf t) = sym (l .is) ∙ settled-invalid k (withInput (drop pos bytes) (plainOf t)) why e in
+          record {
+            full = sym (le-ltb 4096 (length (settled k (withInput bytes (plainOf t₀)) .queue)) (omega (arith, ap (λ x. length (x .queue)) w, queue-fits t long)));
+            segment = λ z. sym w;
+          }
+
+-- ---- what parsing said of the bytes from pos on
+
+pub rest-is : (bytes : List ℕ) (pos : ℕ) → take (length bytes - pos) (drop pos bytes) ≡ drop pos bytes
+rest-is bytes pos = take-all (length bytes - pos) (drop pos bytes) (omega (arith, length-drop pos bytes))
+
+module _ {rest bs : List ℕ} {o : Outcome} (r : rest ≡ bs) (e : parsedOf rest o ≡ parse rest) where
+  pub parsed-complete : {frame : Frame} {len used : ℕ} {d : List ℕ} → o ≡ Complete frame len used → d ≡ dataAt rest len → parse bs ≡ complete (telegramOf frame d) used
+  parsed-complete {frame} {len} {used} {d} is f = ap parse (sym r) ∙ sym e ∙ ap (parsedOf rest) is ∙ ap (λ x. complete (telegramOf frame x) used) (sym f)
+
+  pub parsed-incomplete : o ≡ Incomplete → parse bs ≡ incomplete
+  parsed-incomplete is = ap parse (sym r) ∙ sym e ∙ ap (parsedOf rest) is
+
+  pub parsed-invalid : {why : declared-why.Why} → o ≡ Invalid why → parse bs ≡ invalid (whyOf why)
+  parsed-invalid is = ap parse (sym r) ∙ sym e ∙ ap (parsedOf rest) is
+
+-- a telegram uses some of the bytes, and no more than there are
+pub used-within : (bs : List ℕ) (t : Telegram) (n : ℕ) → parse bs ≡ complete t n → (0 < n) × (n ≤ length bs)
+used-within bs t n e = (used-some bs t n e, parse-back bs t n e .1)

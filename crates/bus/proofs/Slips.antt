@@ -1,0 +1,19 @@
+-- The slips to exclude, each as a law: those of the segment.
+use mathlib.Core.Path.{_≡_, ap}
+use mathlib.Core.List.{List, [], map}
+use Rattle.frame.specs.Frame.{Why, invalid, parse}
+use Rattle.meter.specs.PlainMeter.{PlainMeter}
+use Rattle.meter.specs.declared.Clock.{Clock}
+use Rattle.meter.specs.Hear.{E5}
+use Rattle.bus.specs.Plain.{Plain, joined}
+use Rattle.bus.specs.Steps.{settled}
+use Rattle.bus.proofs.JoinLaws.{joined-acks}
+use Rattle.bus.proofs.SendLaws.{settled-invalid}
+
+-- several E5 come end to end, as many as there are
+pub acks-apart : (ms : List PlainMeter) → joined (map (λ m. E5) ms) ≡ map (λ m. 0xE5) ms
+acks-apart ms = joined-acks ms
+
+-- an invalid telegram drops all of the input
+pub invalid-drops : (k : Clock) (s : Plain) (why : Why) → parse (s .input) ≡ invalid why → (settled k s) .input ≡ []
+invalid-drops k s why e = ap (λ s. s .input) (settled-invalid k s why e)

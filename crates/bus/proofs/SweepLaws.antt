@@ -1,0 +1,162 @@
+-- The loop over the meters: its invariant, a turn, the end.
+use mathlib.Core.Path.{_≡_, refl, sym, ap, ap₂, _∙_, subst}
+use mathlib.Core.Bool.{Bool, true, false}
+use mathlib.Core.List.{List, [], _∷_, _++_, map}
+use Prim.Native.Nat.{ℕ, zero, suc, _+_, _≤_, _<_, min}
+use native.Mathlib.Numerals.{add-one}
+use native.Mathlib.Omega.{arith}
+use lib.ListN.{length, take, set, getD, replicate, length-map, length-take, List·getD-map}
+use lib.Seq.{take-suc}
+use Rattle.laws.specs.Words.{if_then_else_}
+use Rattle.laws.specs.Sweep.{swept}
+use Rattle.laws.proofs.Copy.{take-min}
+use Rattle.laws.proofs.Lists.{map-map}
+use Rattle.laws.proofs.Sweep.{getD-swept, set-swept, swept-min, take-swept}
+use Rattle.meter.specs.declared.Meter.{Meter}
+use Rattle.meter.specs.PlainMeter.{PlainMeter}
+use Rattle.meter.specs.declared.Heard.{Heard}
+use Rattle.meter.specs.View.{plainMeter, heardOf}
+use Rattle.meter.specs.Hear as hearing
+use Rattle.meter.specs.Hear.{Reply, silence, says}
+use Rattle.bus.specs.declared.Segment.{Segment}
+use Rattle.bus.specs.declared.join.Joining.{Joining}
+use Rattle.bus.specs.Plain.{Plain}
+use Rattle.bus.specs.Steps.{withReply, replies}
+use Rattle.bus.specs.View.{plainOf}
+use Rattle.bus.specs.Joining.{replyMost, Joins, said}
+use Rattle.bus.proofs.JoiningLaws.{joins-none}
+
+-- ---- lists
+
+module _ {A B : Type 0} (f : A → B) where
+  pub map-set : (xs : List A) (i : ℕ) (v : A) → map f (set xs i v) ≡ set (map f xs) i (f v)
+  map-set [] i v = refl
+  map-set (x ∷ xs) zero v = refl
+  map-set (x ∷ xs) (suc i) v = ap (λ r. f x ∷ r) (map-set xs i v)
+
+  pub map-take : (n : ℕ) (xs : List A) → map f (take n xs) ≡ take n (map f xs)
+  map-take zero xs = refl
+  map-take (suc n) [] = refl
+  map-take (suc n) (x ∷ xs) = ap (λ r. f x ∷ r) (map-take n xs)
+
+  map-append : (xs ys : List A) → map f (xs ++ ys) ≡ map f xs ++ map f ys
+  map-append [] ys = refl
+  map-append (x ∷ xs) ys = ap (λ r. f x ∷ r) (map-append xs ys)
+
+-- ---- replies
+
+replies-append : (hs gs : List hearing.Heard) → replies (hs ++ gs) ≡ replies hs ++ replies gs
+replies-append [] gs = refl
+replies-append (h ∷ hs) gs = go (h .reply) (replies-append hs gs)
+  where
+    go : (r : Reply) → replies (hs ++ gs) ≡ replies hs ++ replies gs → withReply r (replies (hs ++ gs)) ≡ withReply r (replies hs) ++ replies gs
+    go silence e = e
+    go (says b) e = ap (λ x. b ∷ x) e
+
+said-is : (h : Heard) → replies (heardOf h ∷ []) ≡ said (h .answered) (take (h .reply .len) (h .reply .bytes))
+said-is h = go (h .answered)
+  where
+    go : (b : Bool) → withReply (if b then says (take (h .reply .len) (h .reply .bytes)) else silence) [] ≡ said b (take (h .reply .len) (h .reply .bytes))
+    go true = refl
+    go false = refl
+
+-- not more replies than meters
+pub replies-few : (hs : List hearing.Heard) → length (replies hs) ≤ length hs
+replies-few [] = omega arith
+replies-few (h ∷ hs) = go (h .reply) (replies-few hs)
+  where
+    go : (r : Reply) → length (replies hs) ≤ length hs → length (withReply r (replies hs)) ≤ suc (length hs)
+    go silence e = omega arith
+    go (says b) e = omega arith
+
+-- ---- the loop
+
+-- a plain segment with other meters
+abbrev pub withMeters : List PlainMeter → Plain → Plain
+withMeters ms s = record { baud = s .baud; origin = s .origin; input = s .input; queue = s .queue; meters = ms }
+
+-- every meter of s heard a telegram in the way f, which gives the segment t, and their replies are joined
+pub record Swept (f : PlainMeter → hearing.Heard) (s t : Segment) (kept : Joining) (bytes : List ℕ) : Type 0 where
+  pub segment : plainOf t ≡ withMeters (map (λ h. h .meter) (map f (plainOf s .meters))) (plainOf s)
+  pub joins : Joins (replies (map f (plainOf s .meters))) kept bytes
+
+-- the segment with other meters
+abbrev pub keeping : List Meter → Segment → Segment
+keeping ms s =
+    record { meters = ms; count = s .count; baud = s .baud; origin = s .origin; input = s .input; waiting = s .waiting; queue = s .queue; queued = s .queued }
+
+pub record Sweeping (f : PlainMeter → hearing.Heard) (t₀ : Segment) (i : ℕ) (t : Segment) (kept : Joining) (bytes : List ℕ) : Type 0 where
+  pub same : keeping (t₀ .meters) t ≡ t₀
+  pub meters : map plainMeter (t .meters) ≡ swept (λ p. f p .meter) i (map plainMeter (t₀ .meters))
+  pub joins : Joins (replies (map f (take i (map plainMeter (t₀ .meters))))) kept bytes
+
+module _ {f : PlainMeter → hearing.Heard} {t₀ : Segment} where
+  pub sweeping-none : {bytes : List ℕ} → bytes ≡ replicate replyMost 0xFF → Sweeping f t₀ 0 t₀ (record { count = 0; acks = true; len = 0 }) bytes
+  sweeping-none e = record { same = refl; meters = refl; joins = subst (Joins [] (record { count = 0; acks = true; len = 0 })) (sym e) joins-none }
+
+  -- fewer replies than meters
+  pub sweeping-few : {i : ℕ} {t : Segment} {kept : Joining} {bytes : List ℕ} → Sweeping f t₀ i t kept bytes → kept .count ≤ i
+  sweeping-few {i} s =
+      let ps = map plainMeter (t₀ .meters) in
+      omega (arith, s .joins .count, replies-few (map f (take i ps)), length-map (take i ps) f, length-take i ps)
+
+  turn : {i : ℕ} {t : Segment} {kept kept′ : Joining} {bytes bytes′ : List ℕ} (h : Heard) (d : Meter) → Sweeping f t₀ i t kept bytes → i < length (t₀ .meters)
+      → heardOf h ≡ f (plainMeter (getD (t .meters) i d))
+      → ((rs : List (List ℕ)) → Joins rs kept bytes → Joins (rs ++ said (h .answered) (take (h .reply .len) (h .reply .bytes))) kept′ bytes′)
+      → Sweeping f t₀ (i + 1) (keeping (set (t .meters) i (h .meter)) t) kept′ bytes′
+  turn {i} {t} {kept} {kept′} {bytes} {bytes′} h d s l e more =
+      let ps = map plainMeter (t₀ .meters) in
+      let g : PlainMeter → PlainMeter = λ p. f p .meter in
+      let z = plainMeter d in
+      let b : i < length ps = omega (arith, length-map (t₀ .meters) plainMeter) in
+      let q : plainMeter (getD (t .meters) i d) ≡ getD ps i z =
+      sym (List·getD-map plainMeter (t .meters) i d) ∙ ap (λ xs. getD xs i z) (s .meters) ∙ getD-swept g ps i z b in
+      let v : heardOf h ≡ f (getD ps i z) = e ∙ ap f q in
+      let n : replies (map f (take (i + 1) ps)) ≡ replies (map f (take i ps)) ++ said (h .answered) (take (h .reply .len) (h .reply .bytes)) =
+      ap (λ k. replies (map f (take k ps))) (add-one i)
+      ∙ ap (λ xs. replies (map f xs)) (take-suc ps i z b)
+      ∙ ap replies (map-append f (take i ps) (getD ps i z ∷ []))
+      ∙ replies-append (map f (take i ps)) (f (getD ps i z) ∷ [])
+      ∙ ap (λ x. replies (map f (take i ps)) ++ replies (x ∷ [])) (sym v)
+      ∙ ap (λ x. replies (map f (take i ps)) ++ x) (said-is h) in
+      record {
+        same = s .same;
+        meters =
+            map-set plainMeter (t .meters) i (h .meter)
+            ∙ ap₂ (λ xs x. set xs i x) (s .meters) (ap (λ x. x .meter) v)
+            ∙ set-swept g ps i z b
+            ∙ ap (λ k. swept g k ps) (sym (add-one i));
+        joins = subst (λ rs. Joins rs kept′ bytes′) (sym n) (more (replies (map f (take i ps))) (s .joins));
+      }
+
+  -- the meter at i hears at the baud that the bus still has; g b is what hearing at a baud b gives
+  pub sweeping-more : {i : ℕ} {t : Segment} {kept kept′ : Joining} {bytes bytes′ : List ℕ} (g : ℕ → PlainMeter → hearing.Heard) (h : Heard) (d : Meter) → Sweeping f t₀ i t kept bytes → f ≡ g (t₀ .baud)
+      → i < length (t₀ .meters) → heardOf h ≡ g (t .baud) (plainMeter (getD (t .meters) i d))
+      → ((rs : List (List ℕ)) → Joins rs kept bytes → Joins (rs ++ said (h .answered) (take (h .reply .len) (h .reply .bytes))) kept′ bytes′)
+      → Sweeping f t₀ (i + 1) (keeping (set (t .meters) i (h .meter)) t) kept′ bytes′
+  sweeping-more {i} {t} g h d s u l e more =
+      turn h d s l (e ∙ ap (λ x. g (x .baud) (plainMeter (getD (t .meters) i d))) (s .same) ∙ ap (λ x. x (plainMeter (getD (t .meters) i d))) (sym u)) more
+
+  pub sweeping-all : {i : ℕ} {t : Segment} {kept : Joining} {bytes : List ℕ} → Sweeping f t₀ i t kept bytes → i ≡ min (t₀ .count) (length (t₀ .meters))
+      → Swept f t₀ t kept bytes
+  unfolding plainOf
+  sweeping-all {i} {t} {kept} {bytes} s e =
+      let n = t₀ .count in
+      let ps = map plainMeter (t₀ .meters) in
+      let g : PlainMeter → PlainMeter = λ p. f p .meter in
+      let m : i ≡ min n (length ps) = e ∙ ap (min n) (sym (length-map (t₀ .meters) plainMeter)) in
+      let first : take i ps ≡ map plainMeter (take n (t₀ .meters)) = ap (λ k. take k ps) m ∙ take-min n ps ∙ sym (map-take plainMeter n (t₀ .meters)) in
+      let all : map plainMeter (take (t .count) (t .meters)) ≡ map (λ h. h .meter) (map f (map plainMeter (take n (t₀ .meters)))) =
+      ap (λ x. map plainMeter (take (x .count) (t .meters))) (s .same)
+      ∙ map-take plainMeter n (t .meters)
+      ∙ ap (take n) (s .meters ∙ ap (λ k. swept g k ps) m ∙ swept-min g n ps)
+      ∙ take-swept g n ps
+      ∙ ap (map g) (sym (map-take plainMeter n (t₀ .meters)))
+      ∙ sym (map-map (λ h. h .meter) f (map plainMeter (take n (t₀ .meters)))) in
+      let ms = map (λ h. h .meter) (map f (map plainMeter (take n (t₀ .meters)))) in
+      let new : plainOf t ≡ withMeters ms (plainOf t) = ap (λ xs. withMeters xs (plainOf t)) all in
+      let others : withMeters ms (plainOf t) ≡ withMeters ms (plainOf t₀) = ap (λ x. withMeters ms (plainOf x)) (s .same) in
+      record {
+        segment = new ∙ others;
+        joins = subst (λ xs. Joins (replies (map f xs)) kept bytes) first (s .joins);
+      }

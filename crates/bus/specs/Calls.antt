@@ -1,0 +1,85 @@
+-- Opening, send, receive, clear and baud change: 01's number (0: accepted), what is handed out, and the segment afterwards.
+use mathlib.Core.Bool.{Bool, _&&_, not}
+use mathlib.Core.List.{List, [], _++_}
+use Prim.Native.Nat.{ℕ, min}
+use lib.Ieee.{Float}
+use lib.Dec.{leb, ltb}
+use lib.ListN.{length, take, drop}
+use Rattle.laws.specs.Words.{if_then_else_}
+use Rattle.meter.specs.declared.Clock.{Clock}
+use Rattle.meter.specs.Hear.{rates}
+use Rattle.scenarios.specs.Tables.{isRate}
+use Rattle.scenarios.specs.Opening.{opens, refuses, refusesRecord, openList}
+use Rattle.bus.specs.Plain.{Plain}
+use Rattle.bus.specs.Steps.{withInput, withQueue, settled}
+
+-- ---- opening
+
+-- "An accepted opening builds it anew"; "a later accepted one replaces the segment, a later refused one leaves the former in use"
+unfoldable pub afterOpening : List ℕ → ℕ → Bool → Float → Plain → Plain
+afterOpening list bus practice origin former =
+    elim (openList list bus practice) [
+      | opens ms ↦ record { baud = bus; origin = origin; input = []; queue = []; meters = ms }
+      | refuses n ↦ former
+      | refusesRecord rs ↦ former
+    ]
+
+-- ---- send
+
+-- from low to high, both ends included
+abbrev pub within : ℕ → ℕ → ℕ → Bool
+within low high x = leb low x && leb x high
+
+-- the clock: year 1970..9999, month 1..12, day 1..31, hour 0..23, minute 0..59
+unfoldable pub goodClock : Clock → Bool
+goodClock k =
+    within 1970 9999 (k .year)
+    && within 1 12 (k .month)
+    && within 1 31 (k .day)
+    && within 0 23 (k .hour)
+    && within 0 59 (k .minute)
+
+pub record Done : Type 0 where
+  pub number : ℕ
+  pub segment : Plain
+
+abbrev pub accepted : Plain → Done
+accepted s = record { number = 0; segment = s }
+
+-- "a refused one changes nothing"
+abbrev pub refused : ℕ → Plain → Done
+refused n s = record { number = n; segment = s }
+
+-- 15: "queue would pass 4,096"
+abbrev pub fitsQueue : Plain → Plain → Done
+fitsQueue s t = if ltb 4096 (length (t .queue)) then refused 15 s else accepted t
+
+-- 13: "piece over 1,024"; 14: "a clock field out of range"; "The piece joins the waiting input.", and the steps are taken
+unfoldable pub send : List ℕ → Clock → Plain → Done
+send piece k s =
+    if ltb 1024 (length piece) then refused 13 s else
+    if not (goodClock k) then refused 14 s else
+    fitsQueue s (settled k (withInput (s .input ++ piece) s))
+
+-- ---- receive, clear, baud change
+
+pub record Received : Type 0 where
+  pub count : ℕ
+  pub lent : List ℕ
+  pub segment : Plain
+
+-- "Receive hands out the least of 32, the lent length and the queued bytes; lent bytes past these stay"
+unfoldable pub receive : List ℕ → Plain → Received
+receive lent s =
+    let n = min 32 (min (length lent) (length (s .queue))) in
+    record { count = n; lent = take n (s .queue) ++ drop n lent; segment = withQueue (drop n (s .queue)) s }
+
+-- "Clear empties the queue alone."
+unfoldable pub clear : Plain → Plain
+clear s = withQueue [] s
+
+-- 10: "baud not one of eight"; "`set_baud` sets the bus baud and empties the input, nothing else."
+unfoldable pub changeBaud : ℕ → Plain → Done
+changeBaud b s =
+    if isRate rates b then accepted (record { baud = b; origin = s .origin; input = []; queue = s .queue; meters = s .meters })
+    else refused 10 s

@@ -1,0 +1,7 @@
+pub mod Cases
+pub mod More
+pub mod RoundTrip
+pub mod Theorems
+pub mod Waiting
+pub mod Worked
+pub mod Writing

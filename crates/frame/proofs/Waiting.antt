@@ -1,0 +1,67 @@
+-- An incomplete telegram is at most 260 bytes long.
+use mathlib.Core.Path.{_≡_, refl, sym, ap, _∙_}
+use mathlib.Core.Bool.{Bool, true, false, _&&_, not}
+use mathlib.Core.List.{List, [], _∷_, _++_}
+use Prim.Native.Nat.{ℕ, zero, suc, _+_, _-_, _≤_, _<_}
+use native.Mathlib.Omega.{arith}
+use lib.Dec.{eqb, ltb}
+use borrow.Author.Tests.{ltb-true}
+use lib.ListN.{length, take, drop}
+use Rattle.laws.specs.Words.{if_then_else_, at, Every}
+use Rattle.frame.specs.Frame.{Telegram, ack, short, long, Why, checksum, stop, header, badLength, start, Parsed, complete, incomplete, invalid, sum, parseShort, parseBody, parseLong, parse}
+
+abbrev pub Bytes : List ℕ → Type 0
+Bytes bs = Every (λ b. b < 256) bs
+
+pub never : {A : Type 0} (t : Telegram) (n : ℕ) → complete t n ≡ incomplete → A
+never t n e = let z : _≡_ {A = ℕ} 0 1 = cc in absurd (omega arith)
+
+pub never′ : {A : Type 0} (w : Why) → invalid w ≡ incomplete → A
+never′ w e = let z : _≡_ {A = ℕ} 0 1 = cc in absurd (omega arith)
+
+short-waits : (bs : List ℕ) → parseShort bs ≡ incomplete → length bs ≤ 260
+unfolding parseShort
+short-waits bs e = go (ltb (length bs) 5) refl (eqb (at bs 3) (sum (at bs 1 ∷ at bs 2 ∷ []))) (eqb (at bs 4) 0x16) e
+  where
+    go : (a : Bool) → ltb (length bs) 5 ≡ a → (b c : Bool)
+        → (if a then incomplete else (if not b then invalid checksum else (if not c then invalid stop else complete (short (at bs 1) (at bs 2)) 5))) ≡ incomplete → length bs ≤ 260
+    go true h b c f = omega (arith, ltb-true (length bs) 5 h)
+    go false h false c f = never′ checksum f
+    go false h true false f = never′ stop f
+    go false h true true f = never (short (at bs 1) (at bs 2)) 5 f
+
+body-waits : {A : Type 0} (l : ℕ) (bs : List ℕ) → parseBody l bs ≡ incomplete → A
+unfolding parseBody
+body-waits {A} l bs e = go (eqb (at bs (4 + l)) (sum (take l (drop 4 bs)))) (eqb (at bs (5 + l)) 0x16) e
+  where
+    go : (b c : Bool) → (if not b then invalid checksum else (if not c then invalid stop else complete (long (at bs 4) (at bs 5) (at bs 6) (take (l - 3) (drop 7 bs))) (l + 6))) ≡ incomplete → A
+    go false c f = never′ checksum f
+    go true false f = never′ stop f
+    go true true f = never (long (at bs 4) (at bs 5) (at bs 6) (take (l - 3) (drop 7 bs))) (l + 6) f
+
+long-waits : (bs : List ℕ) → at bs 1 < 256 → parseLong bs ≡ incomplete → length bs ≤ 260
+unfolding parseLong
+long-waits bs l e = go (ltb (length bs) 4) refl (eqb (at bs 2) (at bs 1) && eqb (at bs 3) 0x68) (ltb (at bs 1) 3) (ltb (length bs) (at bs 1 + 6)) refl e
+  where
+    go : (a : Bool) → ltb (length bs) 4 ≡ a → (b c d : Bool) → ltb (length bs) (at bs 1 + 6) ≡ d
+        → (if a then incomplete else (if not b then invalid header else (if c then invalid badLength else (if d then incomplete else parseBody (at bs 1) bs)))) ≡ incomplete → length bs ≤ 260
+    go true h b c d k f = omega (arith, ltb-true (length bs) 4 h)
+    go false h false c d k f = never′ header f
+    go false h true true d k f = never′ badLength f
+    go false h true false true k f = omega (arith, ltb-true (length bs) (at bs 1 + 6) k)
+    go false h true false false k f = body-waits (at bs 1) bs f
+
+second : (b : ℕ) (bs : List ℕ) → Bytes (b ∷ bs) → at (b ∷ bs) 1 < 256
+second b [] h = omega arith
+second b (c ∷ bs) h = h .1 .0
+
+pub waiting-short : (bs : List ℕ) → Bytes bs → parse bs ≡ incomplete → length bs ≤ 260
+unfolding parse
+waiting-short [] h e = omega arith
+waiting-short (b ∷ bs) h e = go (eqb b 0xE5) (eqb b 0x10) (eqb b 0x68) e
+  where
+    go : (x y z : Bool) → (if x then complete ack 1 else (if y then parseShort (b ∷ bs) else (if z then parseLong (b ∷ bs) else invalid start))) ≡ incomplete → length (b ∷ bs) ≤ 260
+    go true y z f = never ack 1 f
+    go false true z f = short-waits (b ∷ bs) f
+    go false false true f = long-waits (b ∷ bs) (second b bs h) f
+    go false false false f = never′ start f

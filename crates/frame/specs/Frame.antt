@@ -1,0 +1,114 @@
+-- Telegrams (EN 13757-2; 01, "A probe goes out"): what they are, how bytes are read as one, how one is written.
+use mathlib.Core.Bool.{Bool, true, false, _&&_, not}
+use mathlib.Core.List.{List, [], _∷_, _++_}
+use Prim.Native.Nat.{ℕ, zero, suc, _+_, _-_, _%_}
+use lib.Dec.{eqb, ltb}
+use lib.Bits.{bitAnd}
+use lib.ListN.{length, take, drop}
+use Rattle.laws.specs.Words.{if_then_else_, at}
+
+-- ACK; short, with C and A; long, with C, A, CI and data
+pub data Telegram : Type 0 where
+  ack : Telegram
+  short : ℕ → ℕ → Telegram
+  long : ℕ → ℕ → ℕ → List ℕ → Telegram
+
+-- ---- the bytes of a telegram
+
+abbrev pub added : List ℕ → ℕ
+added [] = 0
+added (b ∷ bs) = b + added bs
+
+-- the sum, modulo 256
+unfoldable pub sum : List ℕ → ℕ
+sum bs = added bs % 256
+
+-- ACK is E5. Short: 10 C A sum 16. Long: 68 L L 68 C A CI data sum 16, L = data length + 3; the sum is over C, A, CI, data
+unfoldable pub encode : Telegram → List ℕ
+encode ack = 0xE5 ∷ []
+encode (short c a) = 0x10 ∷ c ∷ a ∷ sum (c ∷ a ∷ []) ∷ 0x16 ∷ []
+encode (long c a ci d) = 0x68 ∷ (length d + 3) ∷ (length d + 3) ∷ 0x68 ∷ c ∷ a ∷ ci ∷ (d ++ sum (c ∷ a ∷ ci ∷ d) ∷ 0x16 ∷ [])
+
+-- ---- parse, in its order
+
+-- the Rust's reasons; badLength is its "length", a length byte below 3
+pub data Why : Type 0 where
+  checksum stop header badLength start : Why
+
+-- a telegram with the number of bytes used; more bytes are needed; or why it is none
+pub data Parsed : Type 0 where
+  complete : Telegram → ℕ → Parsed
+  incomplete : Parsed
+  invalid : Why → Parsed
+
+-- short: short of 5 bytes incomplete; checksum, stop
+unfoldable pub parseShort : List ℕ → Parsed
+parseShort bs =
+    if ltb (length bs) 5 then incomplete else
+    if not (eqb (at bs 3) (sum (at bs 1 ∷ at bs 2 ∷ []))) then invalid checksum else
+    if not (eqb (at bs 4) 0x16) then invalid stop else
+    complete (short (at bs 1) (at bs 2)) 5
+
+-- long, with all of its bytes there: checksum, stop
+unfoldable pub parseBody : ℕ → List ℕ → Parsed
+parseBody l bs =
+    if not (eqb (at bs (4 + l)) (sum (take l (drop 4 bs)))) then invalid checksum else
+    if not (eqb (at bs (5 + l)) 0x16) then invalid stop else
+    complete (long (at bs 4) (at bs 5) (at bs 6) (take (l - 3) (drop 7 bs))) (l + 6)
+
+-- long: short of 4 bytes incomplete; header, length below 3, incomplete, and the rest
+unfoldable pub parseLong : List ℕ → Parsed
+parseLong bs =
+    if ltb (length bs) 4 then incomplete else
+    if not (eqb (at bs 2) (at bs 1) && eqb (at bs 3) 0x68) then invalid header else
+    if ltb (at bs 1) 3 then invalid badLength else
+    if ltb (length bs) (at bs 1 + 6) then incomplete else
+    parseBody (at bs 1) bs
+
+-- by the first byte; any other first byte is invalid
+unfoldable pub parse : List ℕ → Parsed
+parse [] = incomplete
+parse (b ∷ bs) =
+    if eqb b 0xE5 then complete ack 1 else
+    if eqb b 0x10 then parseShort (b ∷ bs) else
+    if eqb b 0x68 then parseLong (b ∷ bs) else
+    invalid start
+
+-- ---- the telegram writer: 01's number (0, 11 or 12), how many bytes were written, and the lent bytes afterwards
+
+abbrev pub dataOf : Telegram → List ℕ
+dataOf ack = []
+dataOf (short c a) = []
+dataOf (long c a ci d) = d
+
+pub record Written : Type 0 where
+  pub number : ℕ
+  pub count : ℕ
+  pub lent : List ℕ
+
+-- 11: data over 252; 12: lent bytes too few; a refusal writes nothing, and lent bytes past the telegram stay
+unfoldable pub write : Telegram → List ℕ → Written
+write t lent =
+    if ltb 252 (length (dataOf t)) then record { number = 11; count = 0; lent = lent } else
+    if ltb (length lent) (length (encode t)) then record { number = 12; count = 0; lent = lent } else
+    record { number = 0; count = length (encode t); lent = encode t ++ drop (length (encode t)) lent }
+
+-- ---- the telegrams of a master, and what it takes for an answer
+
+-- SND_NKE (40)
+abbrev pub sndNke : ℕ → Telegram
+sndNke a = short 0x40 a
+
+-- REQ_UD2: 5B, with the alternation bit FCB (20) where it is set
+abbrev pub reqUd2 : ℕ → Bool → Telegram
+reqUd2 a fcb = short (if fcb then 0x7B else 0x5B) a
+
+-- SND_UD (53)
+abbrev pub sndUd : ℕ → ℕ → List ℕ → Telegram
+sndUd a ci d = long 0x53 a ci d
+
+-- RSP_UD: long, C masked with CF is 08
+abbrev pub isRspUd : Telegram → Bool
+isRspUd ack = false
+isRspUd (short c a) = false
+isRspUd (long c a ci d) = eqb (bitAnd c 0xCF) 0x08

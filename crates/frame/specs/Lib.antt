@@ -1,0 +1,3 @@
+pub mod Frame
+pub mod Theorems
+pub mod View

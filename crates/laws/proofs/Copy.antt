@@ -1,0 +1,79 @@
+-- A loop that copies s into d from place at on: its invariant, what a turn adds, the first elements at the end, and what lies past them.
+-- l is d as it is after j elements.
+use mathlib.Core.Path.{_≡_, refl, sym, ap, _∙_}
+use mathlib.Core.List.{List, [], _∷_, _++_}
+use Prim.Native.Nat.{ℕ, zero, suc, _+_, _-_, _≤_, _<_, min}
+use native.Mathlib.Nat.{zero-add, min-zero, zero-min, suc-min-suc}
+use native.Mathlib.Numerals.{add-one}
+use native.Mathlib.Omega.{arith}
+use lib.ListN.{length, take, drop, set, getD, length-drop}
+use lib.Seq.{paste, paste-zero, paste-suc, take-paste, drop-paste, take-length, getD-drop, take-add, drop-at, length-take-le}
+
+pub record Copied {A : Type 0} (d : List A) (at : ℕ) (s : List A) (j : ℕ) (l : List A) : Type 0 where
+  pub is : l ≡ paste d at s j
+
+module _ {A : Type 0} {d : List A} {at : ℕ} {s : List A} where
+  pub copied-none : Copied d at s 0 d
+  copied-none = record { is = paste-zero d at s }
+
+  module _ {j : ℕ} {l : List A} where
+    -- a turn: v, the next element of s, is stored at x, the next place
+    pub copied-more : {x : ℕ} {v : A} (z : A) → Copied d at s j l → x ≡ at + j → at + j < length d → j < length s → v ≡ getD s j z → Copied d at s (j + 1) (set l x v)
+    copied-more z c f h k e = record { is = rw (e, f, c .is, add-one) (paste-suc d at s j z h k) }
+
+    pub copied-first : Copied d at s j l → at ≤ length d → j ≤ length s → take (at + j) l ≡ take at d ++ take j s
+    copied-first c h k = rw (c .is) (take-paste d at s j h k)
+
+    pub copied-whole : Copied d at s j l → at ≤ length d → j ≡ length s → take (at + j) l ≡ take at d ++ s
+    copied-whole c h e = copied-first c h (omega arith) ∙ ap (λ (n : ℕ). take at d ++ take n s) e ∙ ap (λ (r : List A). take at d ++ r) (take-length s)
+
+    -- past what is copied, d is as it was
+    pub copied-past : Copied d at s j l → (k : ℕ) (z : A) → at ≤ length d → j ≤ length s → at + j ≤ k → getD l k z ≡ getD d k z
+    copied-past c k z h m q =
+        let r : at + j + (k - (at + j)) ≡ k = omega arith in
+        ap (λ (x : ℕ). getD l x z) (sym r)
+        ∙ sym (getD-drop (at + j) l (k - (at + j)) z)
+        ∙ ap (λ (x : List A). getD x (k - (at + j)) z) (ap (drop (at + j)) (c .is) ∙ drop-paste d at s j h m)
+        ∙ getD-drop (at + j) d (k - (at + j)) z
+        ∙ ap (λ (x : ℕ). getD d x z) r
+
+module _ {A : Type 0} where
+  pub drop-take : (k n : ℕ) (d : List A) → k ≤ length d → drop k (take (k + n) d) ≡ take n (drop k d)
+  drop-take k n d h = ap (drop k) (take-add k n d) ∙ drop-at (take k d) (take n (drop k d)) k (length-take-le k d h)
+
+-- d is copied down by k places within itself: the invariant, a turn, and the end
+pub record Shifted {A : Type 0} (d : List A) (k j : ℕ) (l : List A) : Type 0 where
+  pub copied : Copied d 0 (drop k d) j l
+
+module _ {A : Type 0} {d : List A} {k : ℕ} where
+  pub shifted-none : Shifted d k 0 d
+  shifted-none = record { copied = copied-none }
+
+  module _ {j : ℕ} {l : List A} (c : Shifted d k j l) where
+    pub shifted-more : {v : A} (z : A) → k + j < length d → v ≡ getD l (k + j) z → Shifted d k (j + 1) (set l j v)
+    shifted-more z h e =
+        let m : j < length (drop k d) = rw length-drop (omega arith) in
+        record {
+          copied =
+              copied-more z (c .copied) (omega arith) (omega arith) m
+              (e ∙ copied-past (c .copied) (k + j) z (omega arith) (omega arith) (omega arith) ∙ sym (getD-drop k d j z));
+        }
+
+    pub shifted-all : (m n : ℕ) → m ≡ j → n ≡ k + j → n ≤ length d → take m l ≡ drop k (take n d)
+    shifted-all m n f e h =
+        let q : j ≤ length (drop k d) = rw length-drop (omega arith) in
+        let g : m ≡ 0 + j = omega arith in
+        ap (λ (x : ℕ). take x l) g
+        ∙ copied-first (c .copied) (omega arith) q
+        ∙ sym (ap (λ (x : ℕ). drop k (take x d)) e ∙ drop-take k j d (omega arith))
+
+module _ {A : Type 0} where
+  -- a count past the end means all
+  pub take-min : (n : ℕ) (xs : List A) → take (min n (length xs)) xs ≡ take n xs
+  take-min zero xs = rw zero-min
+  take-min (suc n) [] = rw min-zero
+  take-min (suc n) (x ∷ xs) = rw suc-min-suc (ap (λ (r : List A). x ∷ r) (take-min n xs))
+
+  -- a copy to the front
+  pub copied-front : {d s l : List A} {j : ℕ} → Copied d 0 s j l → l ≡ take j s ++ drop j d
+  copied-front {d} {s} {l} {j} c = c .is ∙ ap (λ (k : ℕ). take j s ++ drop k d) (zero-add j)

@@ -1,0 +1,3 @@
+pub mod Copy
+pub mod Lists
+pub mod Sweep

@@ -1,0 +1,21 @@
+use mathlib.Core.Path.{sym, _∙_}
+use Rattle.meter.specs.Meter.{put}
+use Rattle.meter.proofs.hearing.put.Statement.{statement}
+use Rattle.meter.proofs.hearing.put.Tie as tie
+
+is-flaky-requires : tie.Need-is-flaky-requires
+is-flaky-requires c κs = tt
+
+with-hearing-requires : tie.Need-with-hearing-requires
+with-hearing-requires c κs = tt
+
+returns : tie.Need-returns
+unfolding put
+returns c = rw (sym (c .before .before .before .is-flaky .ensures) ∙ c .before .before .if1 .taken) (c .with-hearing .ensures)
+
+returns-2 : tie.Need-returns-2
+unfolding put
+returns-2 c = rw (sym (c .before .is-flaky .ensures) ∙ c .if1 .left)
+
+pub put-spec : {M : Type 1} → statement M
+put-spec = tie.close (tie.spec is-flaky-requires with-hearing-requires returns returns-2)

@@ -1,0 +1,143 @@
+-- What the program's opening answers is what the definition allows, case by case.
+use mathlib.Core.Path.{_≡_, refl, sym, ap, subst, _∙_}
+use mathlib.Core.Bool.{Bool, true, false, _&&_, _||_, not}
+use mathlib.Core.List.{List, map}
+use Prim.Native.Nat.{ℕ, _+_, _-_, _*_, _≤_, _<_}
+use native.Mathlib.Nat.{zero-add}
+use native.Mathlib.Omega.{arith}
+use lib.Dec.{eqb, ltb}
+use lib.ListN.{length, take, drop, length-map, length-replicate}
+use borrow.Author.Tests.{lt-ltb, le-ltb}
+use Rattle.laws.specs.Words.{if_then_else_, at}
+use Rattle.laws.specs.Sweep.{fold}
+use Rattle.meter.specs.Hear.{rates}
+use Rattle.meter.specs.View.{plainMeter}
+use Rattle.scenarios.specs.Tables.{isRate}
+use Rattle.scenarios.specs.Layout.{Listed, Layout, fits, noFit, readRecords}
+use Rattle.scenarios.specs.Check.{allPass}
+use Rattle.scenarios.specs.Opening.{capacity, fresh, Opened, opens, refuses, refusesRecord, metersIn, OpeningGives, openRecords, openList}
+use Rattle.scenarios.specs.Reading.{countOf, shapeOf}
+use Rattle.scenarios.specs.Gather.{spare, noMeters, isAccepted, gatheredOf}
+use Rattle.scenarios.specs.Given.{refusalNumber, refusalIndex, rated, MetersGiven}
+use Rattle.scenarios.specs.declared.Shape.{Shape}
+use Rattle.scenarios.specs.declared.Shape.the-variants.{Fits, Unversioned, Unfit}
+use Rattle.scenarios.specs.declared.Refusal.{Refusal}
+use Rattle.scenarios.specs.declared.Refusal.the-variants.{Accepted, Capacity, Baud}
+use Rattle.scenarios.specs.declared.Meters.{Meters}
+use Rattle.scenarios.proofs.CountLaws.{readFrom}
+use Rattle.scenarios.proofs.FoldLaws.{takeIn, gathered-all}
+use Rattle.scenarios.proofs.TakeInLaws.{Under, all-taken, one-stops}
+
+-- ---- the shape of a list, and its opening
+
+-- what an opening of the list comes to, by its shape
+abbrev ByShape : List ℕ → ℕ → Bool → Shape → Type 0
+ByShape bs bus practice Unversioned = openList bs bus practice ≡ refuses 1
+ByShape bs bus practice Unfit = openList bs bus practice ≡ refuses 2
+ByShape bs bus practice (Fits n) = (rs : List Listed) × (readFrom bs 3 ≡ fits rs) × (n ≡ length rs) × (openList bs bus practice ≡ openRecords bus practice (fits rs))
+
+pub by-shape : (bs : List ℕ) (bus : ℕ) (practice : Bool) {s : Shape} → s ≡ shapeOf bs → ByShape bs bus practice s
+unfolding shapeOf openList openRecords
+by-shape bs bus practice {s} e = subst (ByShape bs bus practice) (sym e) (first (ltb (length bs) 3 || not (eqb (at bs 0) 1)) refl (not (eqb (at bs 1 * 256 + at bs 2) (length bs - 3))) refl)
+  where
+    records : (l : Layout) → readFrom bs 3 ≡ l → openList bs bus practice ≡ openRecords bus practice l → ByShape bs bus practice (countOf l)
+    records noFit f o = o
+    records (fits rs) f o = (rs, f, refl, o)
+
+    first : (a : Bool) → ltb (length bs) 3 || not (eqb (at bs 0) 1) ≡ a → (b : Bool) → not (eqb (at bs 1 * 256 + at bs 2) (length bs - 3)) ≡ b
+        → ByShape bs bus practice (if a then Unversioned else (if b then Unfit else countOf (readRecords (length bs) (drop 3 bs))))
+    first true p b q = rw p
+    first false p true q = rw (p, q)
+    first false p false q = records (readFrom bs 3) refl (rw (p, q))
+
+-- ---- a refusal by number
+
+pub given-refused : (bs : List ℕ) (bus : ℕ) (practice : Bool) (r : Refusal) {a : Meters} → a ≡ noMeters r → openList bs bus practice ≡ refuses (refusalNumber r) → refusalIndex r ≡ 0
+    → MetersGiven bs bus practice a
+unfolding noMeters
+given-refused bs bus practice r {a} e o i =
+    subst (MetersGiven bs bus practice) (sym e)
+    record {
+      gives = subst (λ (x : Opened). OpeningGives x (refusalNumber r) (refusalIndex r)) (sym o) (refl, i);
+      count = ap (λ (x : Opened). length (metersIn x)) (sym o);
+      meters = ap metersIn (sym o);
+    }
+
+pub given-over : (bs : List ℕ) (bus : ℕ) (practice : Bool) {n : ℕ} {a : Meters} → Fits n ≡ shapeOf bs → 64 < n → a ≡ noMeters Capacity → MetersGiven bs bus practice a
+unfolding openRecords capacity
+given-over bs bus practice {n} e h q =
+    let s = by-shape bs bus practice e in
+    let m : 64 < length (s .0) = omega (arith, s .2) in
+    given-refused bs bus practice Capacity q (s .3 ∙ rw (lt-ltb 64 (length (s .0)) m)) refl
+
+-- ---- the records
+
+module _ (bs : List ℕ) (bus : ℕ) (practice : Bool) (rs : List Listed) (opened : openList bs bus practice ≡ openRecords bus practice (fits rs)) (few : length rs ≤ 64) where
+  abbrev all : Meters
+  all = fold (takeIn bus practice) (noMeters Accepted) rs
+
+  under : Under (noMeters Accepted) (length rs)
+  unfolding noMeters
+  under = record { accepted = refl; places = length-replicate 64 spare; room = rw zero-add few }
+
+  over-not : ltb capacity (length rs) ≡ false
+  unfolding capacity
+  over-not = le-ltb 64 (length rs) few
+
+  abbrev Given : Meters → Type 0
+  Given = MetersGiven bs bus practice
+
+  -- a record fails
+  given-record : allPass rs ≡ false → Given (rated bus all)
+  unfolding openRecords rated noMeters
+  given-record h =
+      let s = one-stops bus practice (noMeters Accepted) rs under h in
+      let o : openList bs bus practice ≡ refusesRecord rs = opened ∙ rw (over-not, h) in
+      let e : rated bus all ≡ all = ap (λ (b : Bool). if b && not (isRate rates bus) then noMeters Baud else all) (s .refused) in
+      let i : refusalIndex (all .refusal) ≡ length (s .before) = s .index ∙ zero-add (length (s .before)) in
+      subst Given (sym e)
+      record {
+        gives =
+            subst (λ (x : Opened). OpeningGives x (refusalNumber (all .refusal)) (refusalIndex (all .refusal))) (sym o)
+            (s .r, s .before, s .after, s .is, i, s .number, subst (λ (n : ℕ). 0 < n) (sym (s .number)) (s .fails));
+        count = s .none ∙ ap (λ (x : Opened). length (metersIn x)) (sym o);
+        meters = ap (λ (n : ℕ). map plainMeter (take n (all .meters))) (s .none) ∙ ap metersIn (sym o);
+      }
+
+  -- all pass, and the bus baud is none of the rates
+  given-baud : allPass rs ≡ true → isRate rates bus ≡ false → Given (rated bus all)
+  unfolding openRecords rated
+  given-baud h k =
+      let t = all-taken bus practice (noMeters Accepted) rs under h in
+      let o : openList bs bus practice ≡ refuses 10 = opened ∙ rw (over-not, h, k) in
+      let e : rated bus all ≡ noMeters Baud = ap (λ (x : Refusal). if isAccepted x && not (isRate rates bus) then noMeters Baud else all) (t .accepted) ∙ rw k in
+      given-refused bs bus practice Baud e o refl
+
+  -- all pass, at one of the rates
+  given-opened : allPass rs ≡ true → isRate rates bus ≡ true → Given (rated bus all)
+  unfolding openRecords rated noMeters
+  given-opened h k =
+      let t = all-taken bus practice (noMeters Accepted) rs under h in
+      let o : openList bs bus practice ≡ opens (map (fresh bus practice) rs) = opened ∙ rw (over-not, h, k) in
+      let e : rated bus all ≡ all = ap (λ (x : Refusal). if isAccepted x && not (isRate rates bus) then noMeters Baud else all) (t .accepted) ∙ rw k in
+      subst Given (sym e)
+      record {
+        gives =
+            subst (λ (x : Opened). OpeningGives x (refusalNumber (all .refusal)) (refusalIndex (all .refusal))) (sym o) (ap refusalNumber (t .accepted), ap refusalIndex (t .accepted));
+        count = t .count ∙ zero-add (length rs) ∙ sym (length-map rs (fresh bus practice)) ∙ ap (λ (x : Opened). length (metersIn x)) (sym o);
+        meters = t .meters ∙ ap metersIn (sym o);
+      }
+
+  given-all : Given (rated bus all)
+  given-all = go (allPass rs) refl (isRate rates bus) refl
+    where
+      go : (a : Bool) → allPass rs ≡ a → (b : Bool) → isRate rates bus ≡ b → Given (rated bus all)
+      go false h b k = given-record h
+      go true h false k = given-baud h k
+      go true h true k = given-opened h k
+
+pub given-records : (bs : List ℕ) (bus : ℕ) (practice : Bool) {n : ℕ} {a g : Meters} → Fits n ≡ shapeOf bs → n ≤ 64 → g ≡ gatheredOf bs bus practice → a ≡ rated bus g → MetersGiven bs bus practice a
+given-records bs bus practice {n} {a} {g} e h q r =
+    let s = by-shape bs bus practice e in
+    let few : length (s .0) ≤ 64 = omega (arith, s .2) in
+    subst (MetersGiven bs bus practice) (sym (r ∙ ap (rated bus) (q ∙ gathered-all bs bus practice (s .0) (s .1) few))) (given-all bs bus practice (s .0) (s .3) few)

@@ -1,0 +1,39 @@
+-- Each built-in list opens at 2400, with its number of meters; and the seed of (i).
+use mathlib.Core.Path.{_≡_, refl}
+use mathlib.Core.Bool.{false}
+use mathlib.Core.List.{[], _∷_}
+use Prim.Native.Nat.{ℕ}
+use lib.ListN.{length}
+use Rattle.meter.specs.Hear.{rates}
+use Rattle.values.specs.Values.{decimal}
+use Rattle.scenarios.specs.Tables.{media, faults}
+use Rattle.scenarios.specs.Builtins.{praxis, ok10, mfh30, bauds}
+use Rattle.scenarios.specs.Layout.{readTexts, readRecords}
+use Rattle.scenarios.specs.Check.{goodId, goodMaker, check}
+use Rattle.scenarios.specs.Opening.{capacity, seedOf, Opened, opens, metersIn, openRecords, openList}
+
+-- the list opens, with n meters
+pub record OpensWith (n : ℕ) (o : Opened) : Type 0 where
+  pub is : o ≡ opens (metersIn o)
+  pub count : length (metersIn o) ≡ n
+
+pub praxis-opens : OpensWith 20 (openList praxis 2400 false)
+unfolding praxis openList openRecords readRecords readTexts check goodId goodMaker media faults rates capacity
+praxis-opens = record { is = refl; count = refl }
+
+pub ok10-opens : OpensWith 10 (openList ok10 2400 false)
+unfolding ok10 openList openRecords readRecords readTexts check goodId goodMaker media faults rates capacity
+ok10-opens = record { is = refl; count = refl }
+
+pub mfh30-opens : OpensWith 30 (openList mfh30 2400 false)
+unfolding mfh30 openList openRecords readRecords readTexts check goodId goodMaker media faults rates capacity
+mfh30-opens = record { is = refl; count = refl }
+
+pub bauds-opens : OpensWith 8 (openList bauds 2400 false)
+unfolding bauds openList openRecords readRecords readTexts check goodId goodMaker media faults rates capacity
+bauds-opens = record { is = refl; count = refl }
+
+-- (i) id 12345678: seed 43,672
+pub seed-i : seedOf false (1 ∷ 2 ∷ 3 ∷ 4 ∷ 5 ∷ 6 ∷ 7 ∷ 8 ∷ []) ≡ 43672
+unfolding seedOf decimal
+seed-i = refl

@@ -1,0 +1,12 @@
+-- `scenarios::builtins::bauds` meets its contract. Assumes nothing.
+use mathlib.Core.Path.{refl}
+use Rattle.scenarios.specs.Builtins.{bauds}
+use Rattle.scenarios.proofs.builtins.bauds.Statement.{statement}
+use Rattle.scenarios.proofs.builtins.bauds.Tie as tie
+
+returns : tie.Need-returns
+unfolding bauds
+returns c = refl
+
+pub bauds-spec : {M : Type 1} → statement M
+bauds-spec = tie.close (tie.spec returns)

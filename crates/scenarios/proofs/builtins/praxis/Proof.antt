@@ -1,0 +1,12 @@
+-- `scenarios::builtins::praxis` meets its contract. Assumes nothing.
+use mathlib.Core.Path.{refl}
+use Rattle.scenarios.specs.Builtins.{praxis}
+use Rattle.scenarios.proofs.builtins.praxis.Statement.{statement}
+use Rattle.scenarios.proofs.builtins.praxis.Tie as tie
+
+returns : tie.Need-returns
+unfolding praxis
+returns c = refl
+
+pub praxis-spec : {M : Type 1} → statement M
+praxis-spec = tie.close (tie.spec returns)

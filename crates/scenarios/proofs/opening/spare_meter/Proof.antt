@@ -1,0 +1,12 @@
+-- `scenarios::opening::spare_meter` meets its contract. Assumes nothing.
+use mathlib.Core.Path.{refl}
+use Rattle.scenarios.specs.Gather.{spare}
+use Rattle.scenarios.proofs.opening.spare_meter.Statement.{statement}
+use Rattle.scenarios.proofs.opening.spare_meter.Tie as tie
+
+returns : tie.Need-returns
+unfolding spare
+returns c = refl
+
+pub spare-meter-spec : {M : Type 1} → statement M
+spare-meter-spec = tie.close (tie.spec returns)

@@ -1,0 +1,109 @@
+-- What the program makes of the list's records, one after another: its meters, or the first record that fails.
+use mathlib.Core.Bool.{Bool, true, false}
+use mathlib.Core.List.{List}
+use Prim.Native.Nat.{ℕ, zero, suc, _+_, _*_, _%_}
+use lib.Dec.{ltb}
+use lib.ListN.{set, replicate}
+use Rattle.laws.specs.Words.{if_then_else_}
+use Rattle.meter.specs.declared.Fault.the-variants.{None}
+use Rattle.meter.specs.declared.Model.the-variants.{Water}
+use Rattle.meter.specs.declared.LastFcb.the-variants.{Never}
+use Rattle.meter.specs.declared.Meter.{Meter}
+use Rattle.scenarios.specs.Reading.{listedOf, stepAt, atOf}
+use Rattle.scenarios.specs.Checked.{checkedOf}
+use Rattle.scenarios.specs.Opening.{ownBaud}
+use Rattle.scenarios.specs.declared.Values.{Values}
+use Rattle.scenarios.specs.declared.Checked.{Checked}
+use Rattle.scenarios.specs.declared.Checked.the-variants.{Passes, Fails}
+use Rattle.scenarios.specs.declared.Step.{Step}
+use Rattle.scenarios.specs.declared.Step.the-variants.{Record, Bad, End}
+use Rattle.scenarios.specs.declared.Refusal.{Refusal}
+use Rattle.scenarios.specs.declared.Refusal.the-variants.{Accepted, Version, Length, Capacity, AtRecord, Baud}
+use Rattle.scenarios.specs.declared.Meters.{Meters}
+
+-- the seed of an id's decimal number
+abbrev pub seedFrom : Bool → ℕ → ℕ
+seedFrom practice n = if practice then 0 else n % 997 * 53
+
+-- the program's fresh meter
+unfoldable pub freshOf : ℕ → Bool → Values → Meter
+freshOf bus practice v =
+    record {
+      primary = v .primary;
+      id = v .id;
+      manufacturer = v .manufacturer;
+      version = v .version;
+      medium = v .medium;
+      model = v .model;
+      fault = v .fault;
+      access = 0;
+      baud = ownBaud bus practice (v .baud);
+      selected = false;
+      part = 0;
+      last = Never;
+      readouts = 0;
+      seed = seedFrom practice (v .number);
+      hearing = false;
+    }
+
+-- what stands in the places that hold no meter
+unfoldable pub spare : Meter
+spare =
+    record {
+      primary = 0;
+      id = 0;
+      manufacturer = 0;
+      version = 0;
+      medium = 0;
+      model = Water;
+      fault = None;
+      access = 0;
+      baud = 0;
+      selected = false;
+      part = 0;
+      last = Never;
+      readouts = 0;
+      seed = 0;
+      hearing = false;
+    }
+
+-- no meters
+unfoldable pub noMeters : Refusal → Meters
+noMeters r = record { refusal = r; meters = replicate 64 spare; count = 0 }
+
+abbrev pub isAccepted : Refusal → Bool
+isAccepted Accepted = true
+isAccepted Version = false
+isAccepted Length = false
+isAccepted Capacity = false
+isAccepted (AtRecord f i) = false
+isAccepted Baud = false
+
+-- one meter more, while there is room
+unfoldable pub put : Meters → Meter → Meters
+put a m = if ltb (a .count) 64 then record { refusal = a .refusal; meters = set (a .meters) (a .count) m; count = a .count + 1 } else a
+
+-- one record more, checked. Its index is the number of meters so far
+unfoldable pub joined : ℕ → Bool → Meters → Checked → Meters
+joined bus practice a (Passes v) = if isAccepted (a .refusal) then put a (freshOf bus practice v) else a
+joined bus practice a (Fails f) = if isAccepted (a .refusal) then noMeters (AtRecord f (a .count)) else a
+
+-- one step of the reader more
+unfoldable pub admitted : List ℕ → ℕ → Bool → Meters → Step → Meters
+admitted s bus practice a (Record r next) = joined bus practice a (checkedOf (listedOf s r))
+admitted s bus practice a Bad = a
+admitted s bus practice a End = a
+
+-- where the reader stands after k steps. The records begin at byte 3
+unfoldable pub standsAt : List ℕ → ℕ → ℕ
+standsAt s zero = 3
+standsAt s (suc k) = atOf (standsAt s k) (stepAt s (standsAt s k))
+
+-- and what it has given
+unfoldable pub gathered : List ℕ → ℕ → Bool → ℕ → Meters
+gathered s bus practice zero = noMeters Accepted
+gathered s bus practice (suc k) = admitted s bus practice (gathered s bus practice k) (stepAt s (standsAt s k))
+
+-- after as many steps as there may be meters
+unfoldable pub gatheredOf : List ℕ → ℕ → Bool → Meters
+gatheredOf s bus practice = gathered s bus practice 64

@@ -1,0 +1,90 @@
+-- A list of meters, opened: "Opening takes list, bus baud, a practice flag and the origin".
+use mathlib.Core.Path.{_≡_}
+use mathlib.Core.Bool.{Bool, false, _&&_, _||_, not}
+use mathlib.Core.List.{List, [], _∷_, _++_, map}
+use Prim.Native.Nat.{ℕ, _+_, _-_, _*_, _%_, _<_}
+use lib.Dec.{eqb, ltb}
+use lib.ListN.{length, drop}
+use Rattle.laws.specs.Words.{if_then_else_, at}
+use Rattle.values.specs.Values.{makerCode, decimal}
+use Rattle.meter.specs.PlainMeter.{PlainMeter}
+use Rattle.meter.specs.declared.LastFcb.the-variants.{Never}
+use Rattle.meter.specs.Hear.{rates}
+use Rattle.scenarios.specs.Tables.{media, faults, mediumOf, faultOf, isRate}
+use Rattle.scenarios.specs.Layout.{Listed, Layout, fits, noFit, readRecords}
+use Rattle.scenarios.specs.Check.{check, allPass}
+
+-- "At most 64 meters."
+unfoldable pub capacity : ℕ
+capacity = 64
+
+-- the digits of an id's text: "The id's digits are its BCD nibbles"
+abbrev pub textDigits : List ℕ → List ℕ
+textDigits t = map (λ c. c - 0x30) t
+
+-- own baud: "0 = the bus's at opening"; "with it, .. an own baud equal to the bus baud becomes 2400"
+unfoldable pub ownBaud : ℕ → Bool → ℕ → ℕ
+ownBaud bus practice own =
+    if eqb own 0 then bus else
+    if practice && eqb own bus then 2400 else
+    own
+
+-- "Without the flag, seed = (id as a decimal number mod 997) × 53; with it, seed 0"
+unfoldable pub seedOf : Bool → List ℕ → ℕ
+seedOf practice digits = if practice then 0 else decimal digits % 997 * 53
+
+-- "A fresh meter: access 0, not selected, part 0, no last FCB, readouts 0, and a flaky one misses its first telegram."
+unfoldable pub fresh : ℕ → Bool → Listed → PlainMeter
+fresh bus practice r =
+    record {
+      primary = r .primary;
+      digits = textDigits (r .id);
+      manufacturer = makerCode (r .manufacturer);
+      version = r .version;
+      medium = mediumOf media (r .medium) .code;
+      model = mediumOf media (r .medium) .model;
+      fault = faultOf faults (r .fault);
+      access = 0;
+      baud = ownBaud bus practice (r .baud);
+      selected = false;
+      part = 0;
+      last = Never;
+      readouts = 0;
+      seed = seedOf practice (textDigits (r .id));
+      hearsNext = false;
+    }
+
+-- what opening a list at a baud comes to: the meters; a refusal by number; or a refusal by one of the records
+pub data Opened : Type 0 where
+  opens : List PlainMeter → Opened
+  refuses : ℕ → Opened
+  refusesRecord : List Listed → Opened
+
+-- the meters of an opening; a refused one has none
+abbrev pub metersIn : Opened → List PlainMeter
+metersIn (opens ms) = ms
+metersIn (refuses n) = []
+metersIn (refusesRecord rs) = []
+
+-- "For 4 to 9 it names some failing record's index from 0 with that record's first number; which record is free. Elsewhere the index is 0."
+abbrev pub OpeningGives : Opened → ℕ → ℕ → Type 0
+OpeningGives (opens ms) number index = (number ≡ 0) × (index ≡ 0)
+OpeningGives (refuses n) number index = (number ≡ n) × (index ≡ 0)
+OpeningGives (refusesRecord rs) number index =
+    (r : Listed) × (before : List Listed) × (after : List Listed) × (rs ≡ before ++ r ∷ after) × (index ≡ length before) × (number ≡ check r) × (0 < number)
+
+-- the order of the table: 2 a length does not fit, 3 over 64 meters, 4 to 9 each record, 10 baud not one of eight
+unfoldable pub openRecords : ℕ → Bool → Layout → Opened
+openRecords bus practice noFit = refuses 2
+openRecords bus practice (fits rs) =
+    if ltb capacity (length rs) then refuses 3 else
+    if not (allPass rs) then refusesRecord rs else
+    if not (isRate rates bus) then refuses 10 else
+    opens (map (fresh bus practice) rs)
+
+-- "Byte 0 is version 01; two bytes, big-endian, count all that follows; then records." 1: under 3 bytes, or byte 0 is not 1
+unfoldable pub openList : List ℕ → ℕ → Bool → Opened
+openList bs bus practice =
+    if ltb (length bs) 3 || not (eqb (at bs 0) 1) then refuses 1 else
+    if not (eqb (at bs 1 * 256 + at bs 2) (length bs - 3)) then refuses 2 else
+    openRecords bus practice (readRecords (length bs) (drop 3 bs))

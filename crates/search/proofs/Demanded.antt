@@ -1,0 +1,60 @@
+-- Demand 3 over the plain segment holds.
+use mathlib.Core.Path.{_≡_, sym, ap, _∙_, subst}
+use mathlib.Core.Bool.{true}
+use mathlib.Core.List.{List, [], _∷_, List·Memᴰ, List·Memᴰ·head, List·Memᴰ·tail}
+use Prim.Native.Nat.{ℕ}
+use native.Mathlib.Omega.{arith}
+use Rattle.laws.specs.Words.{Every}
+use Rattle.laws.proofs.Lists.{every-keep}
+use Rattle.meter.specs.declared.Clock.{Clock}
+use Rattle.bus.specs.Plain.{Plain, blank}
+use Rattle.search.specs.declared.EntryRecord.{EntryRecord}
+use Rattle.search.specs.Walk.{probe, read, Walked, wholeWalk, searchCall}
+use Rattle.search.specs.Entries.{atBus, atBusBaud}
+use Rattle.search.specs.Call.{opening, afterCalls}
+use Rattle.search.specs.Demand.{Demanded, Demand3}
+use Rattle.search.proofs.Seen.{IdDigits, WellFormed}
+use Rattle.search.proofs.Bound.{D-le}
+use Rattle.search.proofs.Price.{steady-by}
+use Rattle.search.proofs.Upward.{Counted, walk-counted, walkDown, whole-down}
+use Rattle.search.proofs.Allowed.{Allowed, allowed-accepted, accepted-allowed}
+use Rattle.search.proofs.Instance.{ready, walk-found}
+use Rattle.search.proofs.Fits.{well-sized, walk-fits-meters}
+use Rattle.search.proofs.CallLaws.{all-well, blank-well}
+
+every-mem : {A : Type 0} (P : A → Type 0) {x : A} {xs : List A} → List·Memᴰ x xs → Every P xs → P x
+every-mem P (List·Memᴰ·head e) h = subst P (sym e) (h .0)
+every-mem P (List·Memᴰ·tail m) h = every-mem P m (h .1)
+
+-- ---- one search of a well-formed segment
+
+module _ (k : Clock) (a : ℕ) (lent : List EntryRecord) (s : Plain) where
+  spent-all : (wholeWalk k a s) .spent ≡ true → (wholeWalk k a s) .probes ≡ a
+  unfolding walkDown Counted
+  spent-all e =
+      let c = walk-counted Plain (probe k) (read k) 8 [] a s in
+      let l = c .1 (sym (ap (λ (w : Walked). w .spent) (whole-down k a s)) ∙ e) in
+      omega (arith, ap (λ (w : Walked). w .probes) (whole-down k a s), l)
+
+  search-demanded : WellFormed s → Allowed k lent s → Demanded a lent s (wholeWalk k a s) (searchCall k a lent s)
+  search-demanded well h =
+      let is = allowed-accepted k a lent s h in
+      record {
+        count = ap (λ r. r .count) is;
+        written = ap (λ r. r .lent) is;
+        probes = ap (λ r. r .probes) is;
+        spent = ap (λ r. r .spent) is;
+        segment = ap (λ r. r .segment) is;
+        stopped = spent-all;
+        fits = walk-fits-meters k (h .clock) a s (record { input = h .input; queue = h .queue; sized = well-sized s well }) .0;
+        steady = λ f. steady-by a (atBusBaud s) (wholeWalk k a s) (walk-found k (h .clock) s (ready s (h .input) (h .queue) well f) a)
+            (λ m here. every-mem (λ n. IdDigits (n .digits)) here (every-keep (λ n. IdDigits (n .digits)) (atBus (s .baud)) (s .meters) (well .ids)));
+        bound = omega (arith, D-le (atBusBaud s));
+      }
+
+-- ---- any list of calls that begins with an opening, and one more search that is not refused
+
+pub demanded : Demand3
+demanded list bus practice origin cs k a lent e =
+    let s = afterCalls (opening list bus practice origin ∷ cs) blank in
+    search-demanded k a lent s (all-well (opening list bus practice origin ∷ cs) blank blank-well) (accepted-allowed k a lent s e)

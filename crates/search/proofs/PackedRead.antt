@@ -1,0 +1,357 @@
+-- Reading the one selected of packed meters is 01's reading of the segment that they stand for: REQ_UD2 goes through send, and the reply is taken whole.
+use mathlib.Core.Path.{_≡_, refl, sym, ap, ap₂, _∙_, subst}
+use mathlib.Core.Bool.{Bool, true, false, _&&_, _||_, not, false≢true}
+use mathlib.Core.List.{List, [], _∷_, map}
+use Prim.Native.Nat.{ℕ, zero, suc, _+_, _/_, _%_, _≤_}
+use native.Mathlib.Omega.{arith}
+use lib.Dec.{eqb, leb, ltb}
+use lib.Ieee.{Float}
+use lib.ListN.{length}
+use borrow.Author.Tests.{eqb-true, eqb-false, leb-true, leb-false, lt-ltb, le-ltb}
+use Rattle.laws.specs.Words.{if_then_else_, keep, Every}
+use Rattle.frame.specs.Frame.{parse}
+use Rattle.meter.specs.PlainMeter.{PlainMeter}
+use Rattle.meter.specs.declared.Clock.{Clock}
+use Rattle.meter.specs.declared.Fault.{Fault}
+use Rattle.meter.specs.declared.Fault.the-variants.{None, Checksum, Truncated, Busy, WrongAddress, Flaky, TooMany}
+use Rattle.meter.specs.Meter.{hears, flaky, put, asked}
+use Rattle.meter.specs.Hear.{Heard, quiet, request}
+use Rattle.meter.specs.Response.{readout}
+use Rattle.meter.proofs.HearLaws.{hear-reading}
+use Rattle.scenarios.specs.Opening.{capacity}
+use Rattle.bus.specs.Plain.{Plain, joined}
+use Rattle.bus.specs.Calls.{goodClock}
+use Rattle.bus.proofs.SendLaws.{atRest}
+use Rattle.search.specs.Walk.{Entry, one, mute, reading, read, entryOf, recordOf}
+use Rattle.search.specs.Entries.{begins, failsBy}
+use Rattle.search.specs.Marks.{places, bitIf, inside, yesOf, marked, masked, acked, readable, readMark, readKey, readBy, sweptBy, foldBy}
+use Rattle.search.specs.Packed.{spanOf}
+use Rattle.search.specs.Packing.{on, standing, seenAs, recordIn}
+use Rattle.search.proofs.Model.{Prefix}
+use Rattle.search.proofs.ProbeLaws.{secs, asks, readM, read-rest}
+use Rattle.search.proofs.ReadingLaws.{Nibbles, readout-nibbles}
+use Rattle.search.proofs.MarkLaws.{heard, yes-bit, bit-on, marked-selected, marked-fresh, marked-clear, neverRead, tooMany, Bits, Silent}
+use Rattle.search.proofs.ReadMarks.{put-is, Fresh, bits-read, silent-read, even-read, yes-is, request-marked}
+use Rattle.search.proofs.Ranges.{lowOf, inside-begins, digits-eight, digits-nibbles}
+use Rattle.search.proofs.PackedEntries.{record-one, record-mute}
+use Rattle.search.proofs.PackedProbe.{Holds, AllHold, seenAll, Keeping, masked-keeps, standing-hears, seen-length}
+
+pub read-keeps : Keeping readBy
+unfolding readBy
+read-keeps =
+    record {
+      meter = λ bus m key s h. record {
+        small = h .small;
+        digits = h .digits;
+        bits = λ e. bits-read (m .fault) s (h .bits e);
+        away = λ e. silent-read s (h .away e);
+      };
+      none = λ key s q. silent-read s q;
+    }
+
+-- ---- after a mask, an odd mark is one of a meter at bus baud that has the prefix and was reset
+
+pub record Selected (bus : ℕ) (p : List ℕ) (m : PlainMeter) (s : ℕ) : Type 0 where
+  pub bus-baud : eqb (m .baud) bus ≡ true
+  pub fresh : Fresh m s
+  pub has : begins p (m .digits) ≡ true
+
+abbrev pub IfOdd : ℕ → List ℕ → PlainMeter → ℕ → Type 0
+IfOdd bus p m s = on (s % 2) ≡ true → Selected bus p m s
+
+abbrev pub AllIfOdd : ℕ → List ℕ → List PlainMeter → List ℕ → Type 0
+AllIfOdd bus p [] ss = Unit {0}
+AllIfOdd bus p (m ∷ ms) [] = Unit {0}
+AllIfOdd bus p (m ∷ ms) (s ∷ ss) = IfOdd bus p m s × AllIfOdd bus p ms ss
+
+and-first : (a b : Bool) → a && b ≡ true → a ≡ true
+and-first true b h = refl
+and-first false b h = h
+
+and-second : (a b : Bool) → a && b ≡ true → b ≡ true
+and-second true b h = h
+and-second false b h = absurd (false≢true h)
+
+or-true : (a : Bool) → a || true ≡ true
+or-true true = refl
+or-true false = refl
+
+and-false : (a : Bool) → a && false ≡ false
+and-false true = refl
+and-false false = refl
+
+one-odd : (bus : ℕ) (p : List ℕ) (u : ℕ) → Prefix p → length p + u ≡ 8 → (m : PlainMeter) (key s : ℕ) → Holds bus m key s
+    → IfOdd bus p m (masked (lowOf p u) (lowOf p u + spanOf u) key s)
+unfolding masked
+one-odd bus p u w l m key s h odd = go (eqb (m .baud) bus) refl
+  where
+    b : Bool
+    b = inside (lowOf p u) (lowOf p u + spanOf u) key
+
+    t : ℕ
+    t = marked s (bitIf b)
+
+    yes : heard s b ≡ true
+    yes = sym (marked-selected s b) ∙ odd
+
+    go : (a : Bool) → eqb (m .baud) bus ≡ a → Selected bus p m t
+    go true e =
+        record {
+          bus-baud = e;
+          fresh = record {
+            bits = masked-keeps (lowOf p u) (lowOf p u + spanOf u) .meter bus m key s h .bits e;
+            selected = eqb-true (t % 2) 1 odd;
+            fresh = eqb-true (t / 2 % 2) 1 (marked-fresh s b ∙ ap (λ x. on (s / 2 % 2) || x) yes ∙ or-true (on (s / 2 % 2)));
+            clear = omega (arith, eqb-false (t / 8 % 2) 1 (marked-clear s b ∙ ap (λ x. on (s / 8 % 2) && not x) yes ∙ and-false (on (s / 8 % 2))));
+          };
+          has = ap (begins p) (h .digits) ∙ sym (inside-begins p u key w l (h .small)) ∙ and-second (on (s / 16 % 2) || on (s / 4 % 2)) b yes;
+        }
+    go false e = absurd (false≢true (sym (ap₂ (λ x y. (x || y) && b) (h .away e .steady) (h .away e .deaf)) ∙ yes))
+
+pub all-odd : (bus : ℕ) (p : List ℕ) (u : ℕ) → Prefix p → length p + u ≡ 8 → (n : ℕ) (ms : List PlainMeter) (ks ss : List ℕ) → length ms ≤ n → AllHold bus ms ks ss
+    → AllIfOdd bus p ms (sweptBy (masked (lowOf p u) (lowOf p u + spanOf u)) n ks ss)
+all-odd bus p u w l n [] ks ss h q = tt
+all-odd bus p u w l zero (m ∷ ms) ks ss h q = absurd (omega arith)
+all-odd bus p u w l (suc n) (m ∷ ms) [] ss h q = absurd q
+all-odd bus p u w l (suc n) (m ∷ ms) (key ∷ ks) [] h q = absurd q
+all-odd bus p u w l (suc n) (m ∷ ms) (key ∷ ks) (s ∷ ss) h q = (one-odd bus p u w l m key s (q .0), all-odd bus p u w l n ms ks ss (omega arith) (q .1))
+
+-- how many marks are odd
+abbrev pub odds : ℕ → List ℕ → List ℕ → ℕ
+odds zero ks ss = 0
+odds (suc n) [] ss = 0
+odds (suc n) (k ∷ ks) [] = 0
+odds (suc n) (k ∷ ks) (s ∷ ss) = s % 2 + odds n ks ss
+
+pub acked-odds : (low high n a : ℕ) (ks ss : List ℕ) → foldBy (acked low high) a n ks ss ≡ a + odds n ks (sweptBy (masked low high) n ks ss)
+unfolding acked
+acked-odds low high zero a ks ss = omega arith
+acked-odds low high (suc n) a [] ss = omega arith
+acked-odds low high (suc n) a (k ∷ ks) [] = omega arith
+acked-odds low high (suc n) a (k ∷ ks) (s ∷ ss) = acked-odds low high n (a + masked low high k s % 2) ks ss ∙ omega arith
+
+-- ---- a mark whose reply is good
+
+not-on : (x : ℕ) → x ≤ 1 → eqb x 0 ≡ not (on x)
+not-on zero h = refl
+not-on (suc zero) h = refl
+not-on (suc (suc x)) h = absurd (omega arith)
+
+readable-is : (f : Fault) (s : ℕ) → Bits f s → readable s ≡ not (failsBy f (s / 256 % 256))
+unfolding readable
+readable-is f s k =
+    ap₂ (λ x y. x && (y || ltb (s / 256 % 256) 2)) (not-on (s / 64 % 2) (omega arith) ∙ ap not (k .never)) (not-on (s / 128 % 2) (omega arith) ∙ ap not (k .many))
+    ∙ by f
+  where
+    by : (f : Fault) → (not (neverRead f) && (not (tooMany f) || ltb (s / 256 % 256) 2)) ≡ not (failsBy f (s / 256 % 256))
+    by None = refl
+    by Checksum = refl
+    by Truncated = refl
+    by Busy = refl
+    by WrongAddress = refl
+    by Flaky = refl
+    by TooMany = go (leb 2 (s / 256 % 256)) refl
+      where
+        go : (b : Bool) → leb 2 (s / 256 % 256) ≡ b → ltb (s / 256 % 256) 2 ≡ not b
+        go true e = le-ltb (s / 256 % 256) 2 (leb-true 2 (s / 256 % 256) e)
+        go false e = lt-ltb (s / 256 % 256) 2 (omega (arith, leb-false 2 (s / 256 % 256) e))
+
+put-parts : (n : PlainMeter) → ((put n) .digits ≡ n .digits) × ((put n) .fault ≡ n .fault) × ((put n) .readouts ≡ n .readouts)
+unfolding put
+put-parts n = go (flaky (n .fault))
+  where
+    go : (b : Bool) → let q = (if b then record {
+      primary = n .primary;
+      digits = n .digits;
+      manufacturer = n .manufacturer;
+      version = n .version;
+      medium = n .medium;
+      model = n .model;
+      fault = n .fault;
+      access = n .access;
+      baud = n .baud;
+      selected = n .selected;
+      part = n .part;
+      last = n .last;
+      readouts = n .readouts;
+      seed = n .seed;
+      hearsNext = not (n .hearsNext);
+    } else n) in (q .digits ≡ n .digits) × (q .fault ≡ n .fault) × (q .readouts ≡ n .readouts)
+    go true = (refl, refl, refl)
+    go false = (refl, refl, refl)
+
+entry-none : (p : List ℕ) → entryOf p [] ≡ mute p
+unfolding entryOf parse
+entry-none p = refl
+
+module _ (k : Clock) (bus : ℕ) (o : Float) (p : List ℕ) (u : ℕ) (w : Prefix p) (l : length p + u ≡ 8) where
+  abbrev high : ℕ
+  high = lowOf p u + spanOf u
+
+  abbrev replied : PlainMeter → List ℕ
+  replied n = readout (secs k bus o) k (asked false (put n))
+
+  -- ---- one meter
+
+  module _ (m : PlainMeter) (key s : ℕ) (h : Holds bus m key s) where
+    one-read : IfOdd bus p m s → readM k bus o (seenAs bus m s) ≡ seenAs bus m (readBy key s)
+    unfolding seenAs readBy standing reading
+    one-read odd = ap (λ (t : Heard). t .meter) (hear-reading bus (secs k bus o) k (seenAs bus m s)) ∙ go (eqb (m .baud) bus) refl
+      where
+        go : (b : Bool) → eqb (m .baud) bus ≡ b
+            → (let n = (if b then standing m s else m) in if eqb (n .baud) bus then (if n .selected then request false (secs k bus o) k n else quiet n) else quiet n) .meter
+            ≡ (if b then standing m (readMark s) else m)
+        go true e =
+            ap (λ x. (if x then (if on (s % 2) then request false (secs k bus o) k (standing m s) else quiet (standing m s)) else quiet (standing m s)) .meter) e
+            ∙ by (on (s % 2)) refl
+          where
+            by : (c : Bool) → on (s % 2) ≡ c → (if c then request false (secs k bus o) k (standing m s) else quiet (standing m s)) .meter ≡ standing m (readMark s)
+            by true c = request-marked m s (odd c .fresh) (secs k bus o) k
+            by false c = ap (standing m) (sym (even-read s c))
+        go false e = ap (λ x. (if x then (if m .selected then request false (secs k bus o) k m else quiet m) else quiet m) .meter) e
+
+    -- an even mark's meter does not reply
+    even-quiet : on (s % 2) ≡ false → asks k bus o (seenAs bus m s) ≡ false
+    unfolding seenAs standing
+    even-quiet c = go (eqb (m .baud) bus) refl
+      where
+        go : (b : Bool) → eqb (m .baud) bus ≡ b → asks k bus o (seenAs bus m s) ≡ false
+        go true e = ap (λ b. asks k bus o (if b then standing m s else m)) e ∙ ap₂ (λ x y. x && (y && hears (standing m s))) e c
+        go false e = ap (λ b. asks k bus o (if b then standing m s else m)) e ∙ ap (λ x. x && (m .selected && hears m)) e
+
+    -- ---- the one selected
+
+    module _ (q : Selected bus p m s) where
+      hears-yes : hears (standing m s) ≡ on (yesOf s (s % 2))
+      hears-yes =
+          standing-hears m s (q .fresh .bits) ∙ ap (λ x. x || on (s / 4 % 2)) (q .fresh .bits .steady)
+          ∙ sym (ap (λ x. on (yesOf s x)) (q .fresh .selected) ∙ yes-is m s (q .fresh))
+
+      asked-is : (c : Bool) → hears (standing m s) ≡ c → asks k bus o (standing m s) ≡ c
+      unfolding standing
+      asked-is c g = ap₂ (λ x y. x && (y && hears (standing m s))) (q .bus-baud) (ap on (q .fresh .selected)) ∙ g
+
+      key-is : (c : Bool) → on (yesOf s (s % 2)) ≡ c → readKey high key s ≡ (if c && not (failsBy (m .fault) (s / 256 % 256)) then 0x100000000 + key else high)
+      unfolding readKey
+      key-is c g = ap₂ (λ x y. if x && y then 0x100000000 + key else high) g (readable-is (m .fault) s (q .fresh .bits))
+
+      reply-is : entryOf p (replied (standing m s)) ≡ (if failsBy (m .fault) (s / 256 % 256) then mute p else one (m .digits))
+      unfolding standing
+      reply-is =
+          let x = put-parts (standing m s) in
+          readout-nibbles p w (secs k bus o) k (put (standing m s)) (subst Nibbles (sym (x .0 ∙ h .digits)) (digits-eight key, digits-nibbles key)) (ap (begins p) (x .0) ∙ q .has)
+          ∙ (λ i. if failsBy (x .1 i) (x .2 i) then mute p else one (x .0 i))
+
+      fails-record : (f : Bool) → recordOf (if f then mute p else one (m .digits)) ≡ recordIn (if not f then 0x100000000 + key else high)
+      fails-record true = sym (record-mute p u w l)
+      fails-record false = sym (record-one key (m .digits) (h .small) (h .digits))
+
+      heard-entry : (c : Bool) → hears (standing m s) ≡ c
+          → recordOf (entryOf p (joined (map replied (keep (asks k bus o) (standing m s ∷ []))))) ≡ recordIn (readKey high key s)
+      unfolding joined
+      heard-entry true g =
+          ap (λ b. recordOf (entryOf p (joined (map replied (if b then standing m s ∷ [] else []))))) (asked-is true g)
+          ∙ ap recordOf reply-is
+          ∙ fails-record (failsBy (m .fault) (s / 256 % 256))
+          ∙ ap recordIn (sym (key-is true (sym hears-yes ∙ g)))
+      heard-entry false g =
+          ap (λ b. recordOf (entryOf p (joined (map replied (if b then standing m s ∷ [] else []))))) (asked-is false g)
+          ∙ ap recordOf (entry-none p)
+          ∙ sym (record-mute p u w l)
+          ∙ ap recordIn (sym (key-is false (sym hears-yes ∙ g)))
+
+      -- its entry
+      odd-entry : recordOf (entryOf p (joined (map replied (keep (asks k bus o) (seenAs bus m s ∷ []))))) ≡ recordIn (readKey high key s)
+      unfolding seenAs
+      odd-entry =
+          ap (λ b. recordOf (entryOf p (joined (map replied (keep (asks k bus o) ((if b then standing m s else m) ∷ [])))))) (q .bus-baud)
+          ∙ heard-entry (hears (standing m s)) refl
+
+  -- ---- all meters
+
+  -- an even mark brings nothing
+  even-unread : (a key s : ℕ) → on (s % 2) ≡ false → readKey a key s ≡ a
+  unfolding readKey
+  even-unread a key s c =
+      ap (λ x. if x && readable s then 0x100000000 + key else a)
+      (ap (λ x. on (yesOf s x)) (put-is s) ∙ bit-on (yes-bit s (on (s % 2))) ∙ ap (λ x. (on (s / 16 % 2) || on (s / 4 % 2)) && x) c ∙ and-false (on (s / 16 % 2) || on (s / 4 % 2)))
+
+  none-unread : (n a : ℕ) (ks ss : List ℕ) → Every Silent ss → foldBy readKey a n ks ss ≡ a
+  none-unread zero a ks ss q = refl
+  none-unread (suc n) a [] ss q = refl
+  none-unread (suc n) a (key ∷ ks) [] q = refl
+  none-unread (suc n) a (key ∷ ks) (s ∷ ss) q = ap (λ x. foldBy readKey x n ks ss) (even-unread a key s (q .0 .even)) ∙ none-unread n a ks ss (q .1)
+
+  even-is : (s r : ℕ) → s % 2 + r ≡ 0 → on (s % 2) ≡ false
+  even-is s r e = ap on (let z : s % 2 ≡ 0 = omega arith in z)
+
+  none-odds : (n : ℕ) (ks ss : List ℕ) → Every Silent ss → odds n ks ss ≡ 0
+  none-odds zero ks ss q = refl
+  none-odds (suc n) [] ss q = refl
+  none-odds (suc n) (key ∷ ks) [] q = refl
+  none-odds (suc n) (key ∷ ks) (s ∷ ss) q = omega (arith, put-is s ∙ ap bitIf (q .0 .even), none-odds n ks ss (q .1))
+
+  -- where no mark is odd, nobody replies
+  all-quiet : (n : ℕ) (ms : List PlainMeter) (ks ss : List ℕ) → length ms ≤ n → AllHold bus ms ks ss → odds n ks ss ≡ 0
+      → (keep (asks k bus o) (seenAll bus ms ss) ≡ []) × ((a : ℕ) → foldBy readKey a n ks ss ≡ a)
+  unfolding seenAll
+  all-quiet n [] ks ss h q e = (refl, λ a. none-unread n a ks ss q)
+  all-quiet zero (m ∷ ms) ks ss h q e = absurd (omega arith)
+  all-quiet (suc n) (m ∷ ms) [] ss h q e = absurd q
+  all-quiet (suc n) (m ∷ ms) (key ∷ ks) [] h q e = absurd q
+  all-quiet (suc n) (m ∷ ms) (key ∷ ks) (s ∷ ss) h q e =
+      let c = even-is s (odds n ks ss) e in
+      let r = all-quiet n ms ks ss (omega arith) (q .1) (omega arith) in (
+        ap (λ b. if b then seenAs bus m s ∷ keep (asks k bus o) (seenAll bus ms ss) else keep (asks k bus o) (seenAll bus ms ss)) (even-quiet m key s (q .0) c) ∙ r .0,
+        λ a. ap (λ x. foldBy readKey x n ks ss) (even-unread a key s c) ∙ r .1 a,
+      )
+
+  -- where one is, the reply is its meter's
+  all-entry : (n : ℕ) (ms : List PlainMeter) (ks ss : List ℕ) → length ms ≤ n → AllHold bus ms ks ss → AllIfOdd bus p ms ss → odds n ks ss ≡ 1
+      → recordOf (entryOf p (joined (map replied (keep (asks k bus o) (seenAll bus ms ss))))) ≡ recordIn (foldBy readKey high n ks ss)
+  unfolding seenAll
+  all-entry n [] ks ss h q f e = let z : _≡_ {A = ℕ} 0 1 = sym (none-odds n ks ss q) ∙ e in absurd (omega arith)
+  all-entry zero (m ∷ ms) ks ss h q f e = absurd (omega arith)
+  all-entry (suc n) (m ∷ ms) [] ss h q f e = absurd q
+  all-entry (suc n) (m ∷ ms) (key ∷ ks) [] h q f e = absurd q
+  all-entry (suc n) (m ∷ ms) (key ∷ ks) (s ∷ ss) h q f e = go (on (s % 2)) refl (all-entry n ms ks ss (omega arith) (q .1) (f .1))
+    where
+      rest : List PlainMeter
+      rest = keep (asks k bus o) (seenAll bus ms ss)
+
+      go : (c : Bool) → on (s % 2) ≡ c
+          → (odds n ks ss ≡ 1 → recordOf (entryOf p (joined (map replied (keep (asks k bus o) (seenAll bus ms ss))))) ≡ recordIn (foldBy readKey high n ks ss))
+          → recordOf (entryOf p (joined (map replied (keep (asks k bus o) (seenAs bus m s ∷ seenAll bus ms ss))))) ≡ recordIn (foldBy readKey (readKey high key s) n ks ss)
+      go true c ih =
+          let x : s % 2 ≡ 1 = eqb-true (s % 2) 1 c in
+          let r = all-quiet n ms ks ss (omega arith) (q .1) (omega arith) in
+          ap (λ v. recordOf (entryOf p (joined (map replied (if asks k bus o (seenAs bus m s) then seenAs bus m s ∷ v else v))))) (r .0)
+          ∙ odd-entry m key s (q .0) (f .0 c)
+          ∙ ap recordIn (sym (r .1 (readKey high key s)))
+      go false c ih =
+          let x : s % 2 ≡ 0 = put-is s ∙ ap bitIf c in
+          ap (λ b. recordOf (entryOf p (joined (map replied (if b then seenAs bus m s ∷ rest else rest))))) (even-quiet m key s (q .0) c)
+          ∙ ih (omega arith)
+          ∙ ap (λ v. recordIn (foldBy readKey v n ks ss)) (sym (even-unread high key s c))
+
+  all-read : (n : ℕ) (ms : List PlainMeter) (ks ss : List ℕ) → length ms ≤ n → AllHold bus ms ks ss → AllIfOdd bus p ms ss
+      → map (readM k bus o) (seenAll bus ms ss) ≡ seenAll bus ms (sweptBy readBy n ks ss)
+  unfolding seenAll
+  all-read n [] ks ss h q f = refl
+  all-read zero (m ∷ ms) ks ss h q f = absurd (omega arith)
+  all-read (suc n) (m ∷ ms) [] ss h q f = absurd q
+  all-read (suc n) (m ∷ ms) (key ∷ ks) [] h q f = absurd q
+  all-read (suc n) (m ∷ ms) (key ∷ ks) (s ∷ ss) h q f =
+      ap₂ (λ x xs. x ∷ xs) (one-read m key s (q .0) (f .0)) (all-read n ms ks ss (omega arith) (q .1) (f .1))
+
+-- `read_selected` after a mask that one acknowledged is 01's reading: the entry, and the segment afterwards
+pub read-packed : (k : Clock) (bus : ℕ) (o : Float) → goodClock k ≡ true → (p : List ℕ) (u : ℕ) → Prefix p → length p + u ≡ 8
+    → (ms : List PlainMeter) (ks ss : List ℕ) → length ms ≤ places → AllHold bus ms ks ss → AllIfOdd bus p ms ss → odds places ks ss ≡ 1
+    → let r = read k p (atRest bus o (seenAll bus ms ss)) in
+    (recordOf (r .0) ≡ recordIn (foldBy readKey (lowOf p u + spanOf u) places ks ss)) × (r .1 ≡ atRest bus o (seenAll bus ms (sweptBy readBy places ks ss)))
+unfolding capacity
+read-packed k bus o gc p u w l ms ks ss few q f e =
+    let r = read-rest k bus o gc p (seenAll bus ms ss) (omega (arith, seen-length bus ms ks ss q)) in (
+      ap (λ (x : Entry × Plain). recordOf (x .0)) r ∙ all-entry k bus o p u w l places ms ks ss few q f e,
+      ap (λ (x : Entry × Plain). x .1) r ∙ ap (atRest bus o) (all-read k bus o p u w l places ms ks ss few q f),
+    )

@@ -1,0 +1,281 @@
+-- The ids that have a prefix are those from its lowest to its highest number; a number and its eight digits.
+use mathlib.Core.Path.{_≡_, refl, sym, ap, ap₂, _∙_}
+use mathlib.Core.Bool.{Bool, true, false, _&&_}
+use mathlib.Core.List.{List, [], _∷_, _++_, append-assoc, append-nil}
+use Prim.Native.Nat.{ℕ, zero, suc, _+_, _-_, _*_, _/_, _%_, _≤_, _<_}
+use native.Mathlib.Omega.{arith}
+use lib.Dec.{eqb, leb}
+use borrow.Author.Tests.{le-leb, lt-leb, eqb-true, eqb-false, leb-true, leb-false}
+use lib.ListN.{length, replicate}
+use Rattle.laws.specs.Words.{Every}
+use Rattle.meter.specs.View.{digitsOf}
+use Rattle.search.specs.Walk.{maskDigits}
+use Rattle.search.proofs.Model.{Prefix}
+use Rattle.search.proofs.MaskLaws.{digits-small}
+use Rattle.search.specs.Entries.{begins}
+use Rattle.search.specs.Marks.{inside}
+use Rattle.search.specs.Packed.{spanOf}
+
+-- digits behind a number, base 16: what the code computes
+abbrev pub keyFrom : ℕ → List ℕ → ℕ
+keyFrom a [] = a
+keyFrom a (d ∷ ds) = keyFrom (a * 16 + d) ds
+
+abbrev pub zeros : ℕ → List ℕ
+zeros zero = []
+zeros (suc u) = 0 ∷ zeros u
+
+abbrev pub effs : ℕ → List ℕ
+effs zero = []
+effs (suc u) = 15 ∷ effs u
+
+abbrev pub Nibbles : List ℕ → Type 0
+Nibbles = Every (λ d. d < 16)
+
+length-zeros : (u : ℕ) → length (zeros u) ≡ u
+length-zeros zero = refl
+length-zeros (suc u) = ap suc (length-zeros u)
+
+length-effs : (u : ℕ) → length (effs u) ≡ u
+length-effs zero = refl
+length-effs (suc u) = ap suc (length-effs u)
+
+-- a number that is behind stays behind
+behind : (xs ys : List ℕ) (a b : ℕ) → a < b → length xs ≡ length ys → Nibbles xs → keyFrom a xs < keyFrom b ys
+behind [] [] a b h l n = h
+behind [] (y ∷ ys) a b h l n = absurd (omega arith)
+behind (x ∷ xs) [] a b h l n = absurd (omega arith)
+behind (x ∷ xs) (y ∷ ys) a b h l n = let p = n .0 in behind xs ys (a * 16 + x) (b * 16 + y) (omega arith) (omega arith) (n .1)
+
+least : (ds : List ℕ) (a b : ℕ) → a ≤ b → keyFrom a (zeros (length ds)) ≤ keyFrom b ds
+least [] a b h = h
+least (d ∷ ds) a b h = least ds (a * 16 + 0) (b * 16 + d) (omega arith)
+
+most : (ds : List ℕ) (a b : ℕ) → a ≤ b → Nibbles ds → keyFrom a ds ≤ keyFrom b (effs (length ds))
+most [] a b h n = h
+most (d ∷ ds) a b h n = let p = n .0 in most ds (a * 16 + d) (b * 16 + 15) (omega arith) (n .1)
+
+nibbles-tail : (p : List ℕ) (u : ℕ) → Nibbles p → Nibbles (p ++ effs u)
+nibbles-tail [] zero n = tt
+nibbles-tail [] (suc u) n = (omega arith, nibbles-tail [] u tt)
+nibbles-tail (d ∷ p) u n = (n .0, nibbles-tail p u (n .1))
+
+length-tail : (p q : List ℕ) → length (p ++ q) ≡ length p + length q
+length-tail [] q = omega arith
+length-tail (d ∷ p) q = omega (arith, length-tail p q)
+
+and-false : (b : Bool) → (b && false) ≡ false
+and-false true = refl
+and-false false = refl
+
+-- to have a prefix is to lie in its range
+pub range-begins : (u : ℕ) (p ds : List ℕ) (a : ℕ) → Nibbles p → Nibbles ds → length ds ≡ length p + u
+    → inside (keyFrom a (p ++ zeros u)) (keyFrom a (p ++ effs u)) (keyFrom a ds) ≡ begins p ds
+range-begins u [] ds a np nd l =
+    let e : length ds ≡ u = omega arith in
+    let lo : keyFrom a (zeros u) ≤ keyFrom a ds = rw (sym e) (least ds a a (omega arith)) in
+    let hi : keyFrom a ds ≤ keyFrom a (effs u) = rw (sym e) (most ds a a (omega arith) nd) in
+    ap₂ (λ x y. x && y) (le-leb _ _ lo) (le-leb _ _ hi)
+range-begins u (d ∷ p) [] a np nd l = absurd (omega arith)
+range-begins u (d ∷ p) (x ∷ ds) a np nd l = go (eqb d x) (leb d x) refl refl (range-begins u p ds (a * 16 + d) (np .1) (nd .1) (omega arith))
+  where
+    go : (s t : Bool) → eqb d x ≡ s → leb d x ≡ t
+        → inside (keyFrom (a * 16 + d) (p ++ zeros u)) (keyFrom (a * 16 + d) (p ++ effs u)) (keyFrom (a * 16 + d) ds) ≡ begins p ds
+        → inside (keyFrom (a * 16 + d) (p ++ zeros u)) (keyFrom (a * 16 + d) (p ++ effs u)) (keyFrom (a * 16 + x) ds) ≡ (s && begins p ds)
+    go true t es et ih = rw (sym (eqb-true d x es)) ih
+    go false true es et ih =
+        let h : d < x = omega (arith, leb-true d x et, eqb-false d x es) in
+        let g = behind (p ++ effs u) ds (a * 16 + d) (a * 16 + x) (omega arith) (omega (arith, length-tail p (effs u), length-effs u)) (nibbles-tail p u (np .1)) in
+        ap (λ z. leb (keyFrom (a * 16 + d) (p ++ zeros u)) (keyFrom (a * 16 + x) ds) && z) (lt-leb _ _ g) ∙ and-false (leb (keyFrom (a * 16 + d) (p ++ zeros u)) (keyFrom (a * 16 + x) ds))
+    go false false es et ih =
+        let h : x < d = omega (arith, leb-false d x et) in
+        let g = behind ds (p ++ zeros u) (a * 16 + x) (a * 16 + d) (omega arith) (omega (arith, length-tail p (zeros u), length-zeros u)) (nd .1) in
+        ap (λ z. z && leb (keyFrom (a * 16 + x) ds) (keyFrom (a * 16 + d) (p ++ effs u))) (lt-leb _ _ g)
+
+-- ---- the range's low end and its span, as the walk has them
+
+scale-add : (u a b : ℕ) → keyFrom (a + b) (zeros u) ≡ keyFrom a (zeros u) + keyFrom b (zeros u)
+scale-add zero a b = refl
+scale-add (suc u) a b = ap (λ x. keyFrom x (zeros u)) (omega arith) ∙ scale-add u (a * 16 + 0) (b * 16 + 0)
+
+scale-sixteen : (u b : ℕ) → keyFrom (b * 16) (zeros u) ≡ keyFrom b (zeros u) * 16
+scale-sixteen zero b = refl
+scale-sixteen (suc u) b = ap (λ x. keyFrom x (zeros u)) (omega arith) ∙ scale-sixteen u (b * 16 + 0)
+
+scale-one : (u : ℕ) → keyFrom 1 (zeros u) ≡ spanOf u + 1
+unfolding spanOf
+scale-one zero = refl
+scale-one (suc u) = scale-sixteen u 1 ∙ omega (arith, scale-one u)
+
+span-top : (u : ℕ) → keyFrom 15 (zeros u) + spanOf u ≡ spanOf (suc u)
+unfolding spanOf
+span-top u = omega (arith, scale-add u 15 1, scale-sixteen u 1, scale-one u)
+
+pub high-end : (u a : ℕ) → keyFrom a (effs u) ≡ keyFrom a (zeros u) + spanOf u
+unfolding spanOf
+high-end zero a = omega arith
+high-end (suc u) a =
+    high-end u (a * 16 + 15)
+    ∙ omega (arith, scale-add u (a * 16) 15, ap (λ x. keyFrom x (zeros u)) zero-more, span-top u)
+  where
+    zero-more : a * 16 + 0 ≡ a * 16
+    zero-more = omega arith
+
+-- a digit more: the row's steps
+pub next-low : (u a d : ℕ) → keyFrom (a * 16 + d + 1) (zeros u) ≡ keyFrom (a * 16 + d) (zeros u) + (spanOf u + 1)
+next-low u a d = scale-add u (a * 16 + d) 1 ∙ ap (λ x. keyFrom (a * 16 + d) (zeros u) + x) (scale-one u)
+
+-- ---- the range of a prefix with u digits unknown
+
+abbrev pub lowOf : List ℕ → ℕ → ℕ
+lowOf p u = keyFrom 0 (p ++ zeros u)
+
+key-append : (p q : List ℕ) (a : ℕ) → keyFrom a (p ++ q) ≡ keyFrom (keyFrom a p) q
+key-append [] q a = refl
+key-append (d ∷ p) q a = key-append p q (a * 16 + d)
+
+-- its highest id is the mask, F for unknown
+pub high-of : (p : List ℕ) (u : ℕ) → keyFrom 0 (p ++ effs u) ≡ lowOf p u + spanOf u
+high-of p u = key-append p (effs u) 0 ∙ high-end u (keyFrom 0 p) ∙ ap (λ x. x + spanOf u) (sym (key-append p (zeros u) 0))
+
+pub effs-are : (u : ℕ) → effs u ≡ replicate u 0xF
+effs-are zero = refl
+effs-are (suc u) = ap (λ r. 15 ∷ r) (effs-are u)
+
+pub mask-effs : (p : List ℕ) (u : ℕ) → length p + u ≡ 8 → maskDigits p ≡ p ++ effs u
+unfolding maskDigits
+mask-effs p u l =
+    let e : 8 - length p ≡ u = omega arith in
+    rw (e, effs-are)
+
+-- the row's first mask, and the next
+pub low-first : (p : List ℕ) (u : ℕ) → lowOf (p ++ 0 ∷ []) u ≡ lowOf p (suc u)
+low-first p u = ap (keyFrom 0) (append-assoc p (0 ∷ []) (zeros u))
+
+low-digit : (p : List ℕ) (d u : ℕ) → lowOf (p ++ d ∷ []) u ≡ keyFrom (keyFrom 0 p * 16 + d) (zeros u)
+low-digit p d u = ap (keyFrom 0) (append-assoc p (d ∷ []) (zeros u)) ∙ key-append p (d ∷ zeros u) 0
+
+pub low-next : (p : List ℕ) (d u : ℕ) → lowOf (p ++ (d + 1) ∷ []) u ≡ lowOf (p ++ d ∷ []) u + (spanOf u + 1)
+low-next p d u =
+    low-digit p (d + 1) u ∙ ap (λ x. keyFrom x (zeros u)) (omega arith) ∙ next-low u (keyFrom 0 p) d ∙ ap (λ x. x + (spanOf u + 1)) (sym (low-digit p d u))
+
+-- ---- a number and its eight digits
+
+digit-chain : (n : ℕ)
+    → (n / 0x100 ≡ n / 0x10 / 16) × (n / 0x1000 ≡ n / 0x100 / 16) × (n / 0x10000 ≡ n / 0x1000 / 16) × (n / 0x100000 ≡ n / 0x10000 / 16)
+    × (n / 0x1000000 ≡ n / 0x100000 / 16) × (n / 0x10000000 ≡ n / 0x1000000 / 16)
+digit-chain n = (omega arith, omega arith, omega arith, omega arith, omega arith, omega arith)
+
+back : (q r : ℕ) → q ≡ r / 16 → q * 16 + r % 16 ≡ r
+back q r e = omega arith
+
+pub key-digits : (n : ℕ) → n < 0x100000000 → keyFrom 0 (digitsOf n) ≡ n
+unfolding digitsOf
+key-digits n h =
+    let c = digit-chain n in
+    let top : 0 * 16 + n / 0x10000000 % 16 ≡ n / 0x10000000 = omega arith in
+    let d1 = ap (λ x. x * 16 + n / 0x1000000 % 16) top ∙ back (n / 0x10000000) (n / 0x1000000) (c .5) in
+    let d2 = ap (λ x. x * 16 + n / 0x100000 % 16) d1 ∙ back (n / 0x1000000) (n / 0x100000) (c .4) in
+    let d3 = ap (λ x. x * 16 + n / 0x10000 % 16) d2 ∙ back (n / 0x100000) (n / 0x10000) (c .3) in
+    let d4 = ap (λ x. x * 16 + n / 0x1000 % 16) d3 ∙ back (n / 0x10000) (n / 0x1000) (c .2) in
+    let d5 = ap (λ x. x * 16 + n / 0x100 % 16) d4 ∙ back (n / 0x1000) (n / 0x100) (c .1) in
+    let d6 = ap (λ x. x * 16 + n / 0x10 % 16) d5 ∙ back (n / 0x100) (n / 0x10) (c .0) in
+    ap (λ x. x * 16 + n % 16) d6 ∙ back (n / 0x10) n refl
+
+pub digits-eight : (n : ℕ) → length (digitsOf n) ≡ 8
+unfolding digitsOf
+digits-eight n = refl
+
+pub digits-nibbles : (n : ℕ) → Nibbles (digitsOf n)
+unfolding digitsOf
+digits-nibbles n = omega arith
+
+last-digit : (q d : ℕ) → d < 16 → ((q * 16 + d) / 16 ≡ q) × ((q * 16 + d) % 16 ≡ d)
+last-digit q d h = (omega arith, omega arith)
+
+eight : {a b c d e f g h a′ b′ c′ d′ e′ f′ g′ h′ : ℕ} → a ≡ a′ → b ≡ b′ → c ≡ c′ → d ≡ d′ → e ≡ e′ → f ≡ f′ → g ≡ g′ → h ≡ h′
+    → _≡_ {A = List ℕ} (a ∷ b ∷ c ∷ d ∷ e ∷ f ∷ g ∷ h ∷ []) (a′ ∷ b′ ∷ c′ ∷ d′ ∷ e′ ∷ f′ ∷ g′ ∷ h′ ∷ [])
+eight a b c d e f g h = λ i. a i ∷ b i ∷ c i ∷ d i ∷ e i ∷ f i ∷ g i ∷ h i ∷ []
+
+pub digits-key : (ds : List ℕ) → length ds ≡ 8 → Nibbles ds → digitsOf (keyFrom 0 ds) ≡ ds
+unfolding digitsOf
+digits-key [] l n = absurd (omega arith)
+digits-key (a ∷ []) l n = absurd (omega arith)
+digits-key (a ∷ b ∷ []) l n = absurd (omega arith)
+digits-key (a ∷ b ∷ c ∷ []) l n = absurd (omega arith)
+digits-key (a ∷ b ∷ c ∷ d ∷ []) l n = absurd (omega arith)
+digits-key (a ∷ b ∷ c ∷ d ∷ e ∷ []) l n = absurd (omega arith)
+digits-key (a ∷ b ∷ c ∷ d ∷ e ∷ f ∷ []) l n = absurd (omega arith)
+digits-key (a ∷ b ∷ c ∷ d ∷ e ∷ f ∷ g ∷ []) l n = absurd (omega arith)
+digits-key (a ∷ b ∷ c ∷ d ∷ e ∷ f ∷ g ∷ h ∷ x ∷ ds) l n = absurd (omega arith)
+digits-key (a ∷ b ∷ c ∷ d ∷ e ∷ f ∷ g ∷ h ∷ []) l n =
+    let q1 : ℕ = 0 * 16 + a in
+    let q2 : ℕ = q1 * 16 + b in
+    let q3 : ℕ = q2 * 16 + c in
+    let q4 : ℕ = q3 * 16 + d in
+    let q5 : ℕ = q4 * 16 + e in
+    let q6 : ℕ = q5 * 16 + f in
+    let q7 : ℕ = q6 * 16 + g in
+    let w = digit-chain (q7 * 16 + h) in
+    let s8 = last-digit q7 h (n .1 .1 .1 .1 .1 .1 .1 .0) in
+    let s7 = last-digit q6 g (n .1 .1 .1 .1 .1 .1 .0) in
+    let s6 = last-digit q5 f (n .1 .1 .1 .1 .1 .0) in
+    let s5 = last-digit q4 e (n .1 .1 .1 .1 .0) in
+    let s4 = last-digit q3 d (n .1 .1 .1 .0) in
+    let s3 = last-digit q2 c (n .1 .1 .0) in
+    let s2 = last-digit q1 b (n .1 .0) in
+    let s1 = last-digit 0 a (n .0) in
+    let r2 = w .0 ∙ ap (λ x. x / 16) (s8 .0) ∙ s7 .0 in
+    let r3 = w .1 ∙ ap (λ x. x / 16) r2 ∙ s6 .0 in
+    let r4 = w .2 ∙ ap (λ x. x / 16) r3 ∙ s5 .0 in
+    let r5 = w .3 ∙ ap (λ x. x / 16) r4 ∙ s4 .0 in
+    let r6 = w .4 ∙ ap (λ x. x / 16) r5 ∙ s3 .0 in
+    let r7 = w .5 ∙ ap (λ x. x / 16) r6 ∙ s2 .0 in
+    eight (ap (λ x. x % 16) r7 ∙ s1 .1) (ap (λ x. x % 16) r6 ∙ s2 .1) (ap (λ x. x % 16) r5 ∙ s3 .1) (ap (λ x. x % 16) r4 ∙ s4 .1) (ap (λ x. x % 16) r3 ∙ s5 .1) (ap (λ x. x % 16) r2 ∙ s6 .1) (ap (λ x. x % 16) (s8 .0) ∙ s7 .1) (s8 .1)
+
+-- ---- both together
+
+-- an id is in a mask exactly if it begins with the prefix
+pub inside-begins : (p : List ℕ) (u key : ℕ) → Prefix p → length p + u ≡ 8 → key < 0x100000000
+    → inside (lowOf p u) (lowOf p u + spanOf u) key ≡ begins p (digitsOf key)
+inside-begins p u key w l h =
+    ap₂ (λ x y. inside (lowOf p u) x y) (sym (high-of p u)) (sym (key-digits key h))
+    ∙ range-begins u p (digitsOf key) 0 (digits-small p (w .digits)) (digits-nibbles key) (digits-eight key ∙ sym l)
+
+-- below 2^32
+pub key-small : (ds : List ℕ) → length ds ≡ 8 → Nibbles ds → keyFrom 0 ds < 0x100000000
+key-small ds l n = bounded ds 0 8 l n
+  where
+    scale : ℕ → ℕ → ℕ
+    scale a zero = a
+    scale a (suc u) = scale (a * 16) u
+
+    grows : (u a b : ℕ) → a ≤ b → scale a u ≤ scale b u
+    grows zero a b h = h
+    grows (suc u) a b h = grows u (a * 16) (b * 16) (omega arith)
+
+    bounded : (ds : List ℕ) (a u : ℕ) → length ds ≡ u → Nibbles ds → keyFrom a ds < scale (a + 1) u
+    bounded [] a zero l n = omega arith
+    bounded [] a (suc u) l n = absurd (omega arith)
+    bounded (d ∷ ds) a zero l n = absurd (omega arith)
+    bounded (d ∷ ds) a (suc u) l n =
+        let x = bounded ds (a * 16 + d) u (omega arith) (n .1) in
+        let p = n .0 in
+        let y = grows u (a * 16 + d + 1) ((a + 1) * 16) (omega arith) in
+        omega arith
+
+-- a mute's mask as a number
+pub mask-digits : (p : List ℕ) (u : ℕ) → Prefix p → length p + u ≡ 8 → (digitsOf (lowOf p u + spanOf u) ≡ maskDigits p) × (lowOf p u + spanOf u < 0x100000000)
+mask-digits p u w l =
+    let n : Nibbles (p ++ effs u) = nibbles-tail p u (digits-small p (w .digits)) in
+    let e : length (p ++ effs u) ≡ 8 = length-tail p (effs u) ∙ ap (λ x. length p + x) (length-effs u) ∙ l in (
+      ap digitsOf (sym (high-of p u)) ∙ digits-key (p ++ effs u) e n ∙ sym (mask-effs p u l),
+      omega (arith, high-of p u, key-small (p ++ effs u) e n),
+    )
+
+-- eight digits as a number
+pub whole-digits : (p : List ℕ) → Prefix p → length p ≡ 8 → (digitsOf (lowOf p 0) ≡ p) × (lowOf p 0 < 0x100000000)
+whole-digits p w l =
+    let e : p ++ [] ≡ p = append-nil p in
+    let n = digits-small p (w .digits) in
+    (ap (λ q. digitsOf (keyFrom 0 q)) e ∙ digits-key p l n, omega (arith, ap (keyFrom 0) e, key-small p l n))

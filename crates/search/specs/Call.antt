@@ -1,0 +1,34 @@
+-- 01, "The plain segment": it is fed the calls' arguments alone.
+use mathlib.Core.Bool.{Bool}
+use mathlib.Core.List.{List, [], _∷_}
+use Prim.Native.Nat.{ℕ}
+use lib.Ieee.{Float}
+use Rattle.meter.specs.declared.Clock.{Clock}
+use Rattle.bus.specs.Plain.{Plain}
+use Rattle.bus.specs.Calls.{afterOpening, send, receive, clear, changeBaud}
+use Rattle.search.specs.declared.EntryRecord.{EntryRecord}
+use Rattle.search.specs.Walk.{searchCall}
+
+-- The six calls with their arguments.
+-- opening: list, bus baud, practice flag, origin; sending: piece, clock; receiving: the lent bytes; clearing; changing: baud; searching: clock, allowance, the lent records
+pub data Call : Type 0 where
+  opening : List ℕ → ℕ → Bool → Float → Call
+  sending : List ℕ → Clock → Call
+  receiving : List ℕ → Call
+  clearing : Call
+  changing : ℕ → Call
+  searching : Clock → ℕ → List EntryRecord → Call
+
+-- the segment after a call
+unfoldable pub afterCall : Call → Plain → Plain
+afterCall (opening list bus practice origin) s = afterOpening list bus practice origin s
+afterCall (sending piece k) s = (send piece k s) .segment
+afterCall (receiving lent) s = (receive lent s) .segment
+afterCall clearing s = clear s
+afterCall (changing baud) s = (changeBaud baud s) .segment
+afterCall (searching k allowance lent) s = (searchCall k allowance lent s) .segment
+
+-- "Each call gets the segment as the one before left it"
+unfoldable pub afterCalls : List Call → Plain → Plain
+afterCalls [] s = s
+afterCalls (c ∷ cs) s = afterCalls cs (afterCall c s)

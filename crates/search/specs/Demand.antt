@@ -1,0 +1,54 @@
+-- Demand 3 over the plain segment: "one statement about the whole list, not one for each call".
+use mathlib.Core.Path.{_≡_}
+use mathlib.Core.Logic.{_↔_}
+use mathlib.Core.Bool.{Bool, true, false}
+use mathlib.Core.List.{List, [], _∷_, _++_, map, List·Memᴰ}
+use Prim.Native.Nat.{ℕ, _+_, _*_, _/_, _^_, _≤_, _<_, min}
+use lib.Ieee.{Float}
+use lib.ListN.{length, drop}
+use Rattle.laws.specs.Words.{keep}
+use Rattle.meter.specs.PlainMeter.{PlainMeter}
+use Rattle.meter.specs.declared.Clock.{Clock}
+use Rattle.bus.specs.Plain.{Plain, blank}
+use Rattle.search.specs.declared.EntryRecord.{EntryRecord}
+use Rattle.search.specs.Walk.{Entry, Walked, wholeWalk, recordOf, Searched, searchCall}
+use Rattle.search.specs.Entries.{atBusBaud, NoFlaky, D, sumTo, entriesOf, inEntry, Rising}
+use Rattle.search.specs.Call.{Call, opening, afterCalls}
+
+-- A search over the meters ms at bus baud that was not spent: its price, 01's entries, their order, and each meter in exactly one of them
+pub record Complete (ms : List PlainMeter) (w : Walked) : Type 0 where
+  pub probes : w .probes ≡ 1 + 10 * D ms
+  pub entries : w .entries ≡ entriesOf ms
+  pub rising : Rising (w .entries)
+  pub once : (m : PlainMeter) → List·Memᴰ m ms → length (keep (inEntry m) (w .entries)) ≡ 1
+
+-- With no flaky meter at bus baud: spent exactly when (`↔`: both ways) the allowance is below the price; a spent one has the first of 01's entries
+pub record Steady (allowance : ℕ) (ms : List PlainMeter) (w : Walked) : Type 0 where
+  pub spent : (w .spent ≡ true) ↔ (allowance < 1 + 10 * D ms)
+  pub sofar : w .spent ≡ true → (rest : List Entry) × (entriesOf ms ≡ w .entries ++ rest)
+  pub complete : w .spent ≡ false → Complete ms w
+
+-- what a search gives, r, on the segment s with the walk w
+pub record Demanded (allowance : ℕ) (lent : List EntryRecord) (s : Plain) (w : Walked) (r : Searched) : Type 0 where
+  -- "In every case the entries, the number of probes .., spent or not, and the segment afterwards are those that the walk above gives over the plain segment"
+  pub count : r .count ≡ length (w .entries)
+  pub written : r .lent ≡ map recordOf (w .entries) ++ drop (length (w .entries)) lent
+  pub probes : r .probes ≡ w .probes
+  pub spent : r .spent ≡ w .spent
+  pub segment : r .segment ≡ w .segment
+  -- "A spent search made exactly its allowance", in every case
+  pub stopped : w .spent ≡ true → w .probes ≡ allowance
+  -- no more entries than meters, in every case
+  pub fits : length (w .entries) ≤ length (s .meters)
+  -- more is claimed with no flaky meter at bus baud
+  pub steady : NoFlaky s → Steady allowance (atBusBaud s) w
+  -- the bound on the price, in every case: over k = 0 to 7, the sum of the lesser of 10^k and n/2 rounded down, n the meters at bus baud
+  pub bound : let n = length (atBusBaud s) in 1 + 10 * D (atBusBaud s) ≤ 1 + 10 * sumTo 8 (λ k. min (10 ^ k) (n / 2))
+
+-- "Demand 3's lists begin with an opening, accepted or not": after any such list, one more search that is not refused.
+-- `blank` is the segment that a refused first opening gives.
+abbrev pub Demand3 : Type 0
+Demand3 = (list : List ℕ) (bus : ℕ) (practice : Bool) (origin : Float) (cs : List Call) (k : Clock) (allowance : ℕ) (lent : List EntryRecord)
+    → let s = afterCalls (opening list bus practice origin ∷ cs) blank in
+    let r = searchCall k allowance lent s in
+    r .number ≡ 0 → Demanded allowance lent s (wholeWalk k allowance s) r

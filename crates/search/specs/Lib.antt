@@ -1,0 +1,9 @@
+pub mod Walk
+pub mod Entries
+pub mod Call
+pub mod Answer
+pub mod Demand
+pub mod Marks
+pub mod Packed
+pub mod Packing
+pub mod View

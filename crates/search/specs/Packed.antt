@@ -1,0 +1,91 @@
+-- The walk over packed meters, in the steps of Walk.antt. An entry is one number: the id with the E5 counted in front of it (one: 1), or a mute's mask,
+-- F for unknown, with 0; in front is what is above 2^32.
+use mathlib.Core.Path.{_≡_}
+use mathlib.Core.Bool.{Bool, true, false}
+use mathlib.Core.List.{List, [], _∷_, _++_}
+use Prim.Native.Nat.{ℕ, zero, suc, _+_, _-_, _*_}
+use lib.Dec.{eqb, leb, ltb}
+use lib.ListN.{length, take}
+use Rattle.laws.specs.Words.{if_then_else_}
+use Rattle.search.specs.declared.walk.Walk.{Walk}
+use Rattle.search.specs.declared.walk.Probed.{Probed}
+use Rattle.search.specs.Marks.{places, masked, acked, readKey, readBy, sweptBy, foldBy}
+
+-- where a walk stands
+pub record Run : Type 0 where
+  pub entries : List ℕ
+  pub probes : ℕ
+  pub spent : Bool
+  pub marks : List ℕ
+
+-- the program's walk with the lent marks and entries
+unfoldable pub viewOf : Walk → List ℕ → List ℕ → Run
+viewOf w ss es = record { entries = take (w .found) es; probes = w .probes; spent = w .spent; marks = ss }
+
+-- lent arrays of keys, marks and entries have all their places
+pub record Whole (ks ss es : List ℕ) : Type 0 where
+  pub keys : length ks ≡ places
+  pub marks : length ss ≡ places
+  pub entries : length es ≡ places
+
+-- one entry more, as long as there is a place
+unfoldable pub pushR : ℕ → List ℕ → List ℕ
+pushR e es = if ltb (length es) places then es ++ e ∷ [] else es
+
+-- what lending the entries es for one more, e, gives
+pub record Noted (w : Walk) (es : List ℕ) (e : ℕ) (r : Walk) (fs : List ℕ) : Type 0 where
+  pub entries : take (r .found) fs ≡ pushR e (take (w .found) es)
+  pub probes : r .probes ≡ w .probes
+  pub spent : r .spent ≡ w .spent
+  pub room : length fs ≡ places
+
+abbrev pub stopR : Run → Run
+stopR t = record { entries = t .entries; probes = t .probes; spent = true; marks = t .marks }
+
+-- one probe more, which left the marks ss
+abbrev pub countR : List ℕ → Run → Run
+countR ss t = record { entries = t .entries; probes = t .probes + 1; spent = false; marks = ss }
+
+abbrev pub noteR : ℕ → List ℕ → Run → Run
+noteR e ss t = record { entries = pushR e (t .entries); probes = t .probes; spent = t .spent; marks = ss }
+
+-- a probe without its row, and how many answered where they are several
+pub record Once : Type 0 where
+  pub many : ℕ
+  pub run : Run
+
+unfoldable pub onceOf : Probed → List ℕ → List ℕ → Once
+onceOf r ss es = record { many = r .many; run = viewOf (r .walk) ss es }
+
+-- n acknowledged: one is read
+abbrev pub heardR : List ℕ → ℕ → ℕ → List ℕ → Run → Once
+heardR ks high n ss t =
+    if eqb n 1 then record { many = 0; run = noteR (foldBy readKey high places ks ss) (sweptBy readBy places ks ss) (countR ss t) }
+    else record { many = n; run = countR ss t }
+
+unfoldable pub onceR : List ℕ → ℕ → ℕ → ℕ → Run → Once
+onceR ks allowance low high t =
+    if leb allowance (t .probes) then record { many = 0; run = stopR t }
+    else heardR ks high (foldBy (acked low high) 0 places ks (t .marks)) (sweptBy (masked low high) places ks (t .marks)) t
+
+-- 16^u - 1
+unfoldable pub spanOf : ℕ → ℕ
+spanOf zero = 0
+spanOf (suc u) = spanOf u * 16 + 15
+
+-- n masks, each by `unit` higher than the one before
+unfoldable pub rowR : (ℕ → Run → Run) → ℕ → ℕ → ℕ → Run → Run
+rowR f unit zero l t = t
+rowR f unit (suc n) l t = rowR f unit n (l + unit) (f l t)
+
+-- what follows one probe: `several` where several answered
+abbrev pub thenR : Once → (Run → Run) → Run
+thenR o several = if eqb (o .many) 0 then o .run else several (o .run)
+
+unfoldable pub walkR : List ℕ → ℕ → ℕ → ℕ → Run → Run
+walkR ks allowance zero low t =
+    let o = onceR ks allowance low (low + spanOf 0) t in
+    thenR o (λ r. noteR (o .many * 0x100000000 + low) (r .marks) r)
+walkR ks allowance (suc u) low t =
+    let o = onceR ks allowance low (low + spanOf (suc u)) t in
+    thenR o (rowR (walkR ks allowance u) (spanOf u + 1) 10 low)

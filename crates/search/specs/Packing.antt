@@ -1,0 +1,95 @@
+-- How a search packs the meters, and what a meter and an entry are that are packed.
+use mathlib.Core.Bool.{Bool, true, false}
+use mathlib.Core.List.{List, _++_, map}
+use Prim.Native.Nat.{ℕ, zero, suc, _+_, _*_, _/_, _%_, _<_}
+use lib.Dec.{eqb}
+use lib.ListN.{take, drop, replicate}
+use Rattle.laws.specs.Words.{if_then_else_}
+use Rattle.meter.specs.PlainMeter.{PlainMeter}
+use Rattle.meter.specs.Meter.{with}
+use Rattle.meter.specs.View.{digitsOf}
+use Rattle.meter.specs.declared.Meter.{Meter}
+use Rattle.meter.specs.declared.Fault.{Fault}
+use Rattle.meter.specs.declared.Fault.the-variants.{None, Checksum, Truncated, Busy, WrongAddress, Flaky, TooMany}
+use Rattle.meter.specs.declared.LastFcb.{LastFcb}
+use Rattle.meter.specs.declared.LastFcb.the-variants.{Never, Clear}
+use Rattle.search.specs.declared.EntryRecord.{EntryRecord}
+use Rattle.search.specs.declared.Kind.{Kind}
+use Rattle.search.specs.declared.Kind.the-variants.{One, Mute, Many}
+use Rattle.search.specs.Marks.{places, bitIf}
+
+-- ---- a meter's mark
+
+-- 16 steady, 32 flaky; 64 its reading always fails, 128 too_many
+abbrev pub faultBits : Fault → ℕ
+faultBits None = 16
+faultBits Checksum = 80
+faultBits Truncated = 80
+faultBits Busy = 80
+faultBits WrongAddress = 16
+faultBits Flaky = 32
+faultBits TooMany = 144
+
+-- the mark with which a search begins
+unfoldable pub markOf : ℕ → Meter → ℕ
+markOf bus m =
+    if eqb (m .baud) bus then bitIf (m .selected) + bitIf (m .hearing) * 4 + faultBits (m .fault) + m .readouts * 256 + m .access * 65536
+    else 0
+
+abbrev pub idOf : Meter → ℕ
+idOf m = m .id
+
+-- numbers of the first n meters, 0 past them
+unfoldable pub packed : (Meter → ℕ) → ℕ → List Meter → List ℕ
+packed f n ms = take n (map f ms) ++ drop n (replicate places 0)
+
+-- what the program's types say of a meter
+pub record Bounded (m : Meter) : Type 0 where
+  pub id : m .id < 0x100000000
+  pub access : m .access < 256
+  pub readouts : m .readouts < 256
+
+-- ---- a meter as its mark has it
+
+abbrev pub on : ℕ → Bool
+on x = eqb x 1
+
+-- last FCB clear; reset
+abbrev pub partIn : Bool → Bool → ℕ → ℕ
+partIn true fresh p = 0
+partIn false true p = 0
+partIn false false p = p
+
+abbrev pub lastIn : Bool → Bool → LastFcb → LastFcb
+lastIn true fresh l = Clear
+lastIn false true l = Never
+lastIn false false l = l
+
+abbrev pub stand : PlainMeter → Bool → Bool → Bool → Bool → ℕ → ℕ → PlainMeter
+stand m selected fresh hears clear access readouts =
+    with m (m .primary) (m .baud) selected (partIn clear fresh (m .part)) (lastIn clear fresh (m .last)) access readouts hears
+
+unfoldable pub standing : PlainMeter → ℕ → PlainMeter
+standing m s = stand m (on (s % 2)) (on (s / 2 % 2)) (on (s / 4 % 2)) (on (s / 8 % 2)) (s / 65536 % 256) (s / 256 % 256)
+
+-- a meter at another baud is left as it was
+unfoldable pub seenAs : ℕ → PlainMeter → ℕ → PlainMeter
+seenAs bus m s = if eqb (m .baud) bus then standing m s else m
+
+abbrev pub seenBy : ℕ → ℕ → PlainMeter → PlainMeter
+seenBy bus s m = seenAs bus m s
+
+-- ---- an entry
+
+-- by the number in front of its id or mask
+abbrev pub kindIn : ℕ → Kind
+kindIn zero = Mute
+kindIn (suc zero) = One
+kindIn (suc (suc n)) = Many
+
+abbrev pub countIn : ℕ → ℕ
+countIn zero = 1
+countIn (suc n) = suc n
+
+unfoldable pub recordIn : ℕ → EntryRecord
+recordIn e = record { kind = kindIn (e / 0x100000000); digits = digitsOf (e % 0x100000000); count = countIn (e / 0x100000000) }

@@ -1,0 +1,231 @@
+// From the meters to their keys and marks and back, and from an entry's number to its record.
+ghost use mathlib.Core.Path.{_≡_};
+ghost use mathlib.Core.List.{map};
+ghost use Prim.Native.Nat.{ℕ, _≤_, min};
+ghost use lib.ListN.{length, take, replicate};
+ghost use Rattle.laws.specs.Words.{Every};
+ghost use Rattle.meter.specs.View.{digitsOf, plainMeter};
+ghost use Rattle.search.specs.Marks.{places, sweptBy};
+ghost use Rattle.search.specs.Packing.{faultBits, idOf, markOf, Bounded, packed, lastIn, partIn, seenAs, seenBy, kindIn, countIn, recordIn};
+use crate::EntryRecord;
+use crate::Kind;
+use crate::marks::bit;
+use bus::METERS;
+use meter::Fault;
+use meter::LastFcb;
+use meter::Meter;
+
+pub(crate) fn least(a: usize, b: usize) -> usize
+    ensures { λ r. ⌜ r ≡ min a b ⌝ }
+{
+    if a < b { a } else { b }
+}
+
+fn zeros() -> [u32; METERS]
+    ensures { λ r. ⌜ r ≡ replicate places 0 ⌝ }
+{
+    [0u32; METERS]
+}
+
+// The bits of a mark that say what kind of meter it is.
+fn fault_bits(fault: Fault) -> u32
+    ensures { λ r. ⌜ (r ≡ faultBits fault) × (r ≤ 144) ⌝ }
+{
+    match fault {
+        Fault::None => 16,
+        Fault::Checksum => 80,
+        Fault::Truncated => 80,
+        Fault::Busy => 80,
+        Fault::WrongAddress => 16,
+        Fault::Flaky => 32,
+        Fault::TooMany => 144,
+    }
+}
+
+// The mark with which a search begins.
+fn mark_of(m: Meter, bus: u32) -> u32
+    ensures { λ r. ⌜ (r ≡ markOf bus m) × Bounded m ⌝ }
+{
+    if m.baud == bus {
+        let fault = m.fault;
+        let low = bit(m.selected) + bit(m.hearing) * 4;
+        return low + fault_bits(fault) + m.readouts as u32 * 256 + m.access as u32 * 65536;
+    }
+    0
+}
+
+pub(crate) fn keys_of(meters: [Meter; METERS], count: usize) -> [u32; METERS]
+    ensures { λ r. ⌜ r ≡ packed idOf (min count places) meters ⌝ }
+{
+    let mut keys = zeros();
+    let end = least(count, METERS);
+    let mut i: usize = 0;
+    while i < end {
+        let m = meters[i];
+        keys[i] = m.id;
+        i += 1;
+    }
+    keys
+}
+
+pub(crate) fn marks_of(meters: [Meter; METERS], count: usize, bus: u32) -> [u32; METERS]
+    ensures { λ r. ⌜ (r ≡ packed (markOf bus) (min count places) meters) × Every Bounded (take (min count places) meters) × (length meters ≡ places) ⌝ }
+{
+    let mut marks = zeros();
+    let end = least(count, METERS);
+    let mut i: usize = 0;
+    while i < end {
+        let m = meters[i];
+        let s = mark_of(m, bus);
+        marks[i] = s;
+        i += 1;
+    }
+    marks
+}
+
+// The part and the last FCB that a mark leaves: clear, the last FCB is clear; fresh, a select reset them.
+fn part_in(clear: bool, fresh: bool, part: u8) -> u8
+    ensures { λ r. ⌜ r ≡ partIn clear fresh part ⌝ }
+{
+    if clear {
+        return 0;
+    }
+    if fresh { 0 } else { part }
+}
+
+fn last_in(clear: bool, fresh: bool, last: LastFcb) -> LastFcb
+    ensures { λ r. ⌜ r ≡ lastIn clear fresh last ⌝ }
+{
+    if clear {
+        return LastFcb::Clear;
+    }
+    if fresh {
+        return LastFcb::Never;
+    }
+    last
+}
+
+// A meter as its mark has it; one at another baud stays.
+fn unmark(m: Meter, bus: u32, mark: u32) -> Meter
+    ensures { λ r. ⌜ plainMeter r ≡ seenAs bus (plainMeter m) mark ⌝ }
+{
+    if m.baud == bus {
+        let fresh = mark / 2 % 2 == 1;
+        let clear = mark / 8 % 2 == 1;
+        let model = m.model;
+        let fault = m.fault;
+        let before = m.last;
+        let last = last_in(clear, fresh, before);
+        let part = part_in(clear, fresh, m.part);
+        return Meter {
+            primary: m.primary,
+            id: m.id,
+            manufacturer: m.manufacturer,
+            version: m.version,
+            medium: m.medium,
+            model: model,
+            fault: fault,
+            access: (mark / 65536 % 256) as u8,
+            baud: m.baud,
+            selected: mark % 2 == 1,
+            part: part,
+            last: last,
+            readouts: (mark / 256 % 256) as u8,
+            seed: m.seed,
+            hearing: mark / 4 % 2 == 1,
+        };
+    }
+    m
+}
+
+pub(crate) fn unmark_all(
+    meters: [Meter; METERS],
+    count: usize,
+    bus: u32,
+    marks: [u32; METERS],
+) -> [Meter; METERS]
+    ensures { λ r. ⌜ map plainMeter r ≡ sweptBy (seenBy bus) (min count places) marks (map plainMeter meters) ⌝ }
+{
+    let mut ms = meters;
+    let end = least(count, METERS);
+    let mut i: usize = 0;
+    while i < end {
+        let m = ms[i];
+        let k = unmark(m, bus, marks[i]);
+        ms[i] = k;
+        i += 1;
+    }
+    ms
+}
+
+fn digits_of(id: u32) -> [u8; 8]
+    ensures { λ r. ⌜ r ≡ digitsOf id ⌝ }
+{
+    [
+        (id / 0x10000000 % 16) as u8,
+        (id / 0x1000000 % 16) as u8,
+        (id / 0x100000 % 16) as u8,
+        (id / 0x10000 % 16) as u8,
+        (id / 0x1000 % 16) as u8,
+        (id / 0x100 % 16) as u8,
+        (id / 0x10 % 16) as u8,
+        (id % 16) as u8,
+    ]
+}
+
+fn kind_of(front: u32) -> Kind
+    ensures { λ r. ⌜ r ≡ kindIn front ⌝ }
+{
+    if front == 0 {
+        return Kind::Mute;
+    }
+    if front == 1 {
+        return Kind::One;
+    }
+    Kind::Many
+}
+
+fn count_of(front: u32) -> u32
+    ensures { λ r. ⌜ r ≡ countIn front ⌝ }
+{
+    if front == 0 { 1 } else { front }
+}
+
+fn record_of(e: u64) -> EntryRecord
+    ensures { λ r. ⌜ r ≡ recordIn e ⌝ }
+{
+    let front = (e / 0x100000000) as u32;
+    let kind = kind_of(front);
+    let digits = digits_of((e % 0x100000000) as u32);
+    let count = count_of(front);
+    EntryRecord {
+        kind: kind,
+        digits: digits,
+        count: count,
+    }
+}
+
+pub(crate) fn blank_records() -> [EntryRecord; METERS] {
+    let kind = Kind::Mute;
+    let digits = [0u8; 8];
+    let e = EntryRecord {
+        kind: kind,
+        digits: digits,
+        count: 0,
+    };
+    [e; METERS]
+}
+
+pub(crate) fn records_of(entries: [u64; METERS], found: usize) -> [EntryRecord; METERS]
+    ensures { λ r. ⌜ take (min found places) r ≡ map recordIn (take (min found places) entries) ⌝ }
+{
+    let mut records = blank_records();
+    let end = least(found, METERS);
+    let mut i: usize = 0;
+    while i < end {
+        let e = record_of(entries[i]);
+        records[i] = e;
+        i += 1;
+    }
+    records
+}

@@ -1,0 +1,98 @@
+-- The table, line by line: by computation, but for the general half of (j) and the price of (l).
+use mathlib.Core.Path.{_≡_, refl}
+use mathlib.Core.Bool.{Bool, true, false}
+use mathlib.Core.List.{List, [], _∷_}
+use Prim.Native.Nat.{ℕ, _+_, _*_, _≤_}
+use native.Mathlib.Omega.{arith}
+use lib.Ieee.{round, sub}
+use lib.ListN.{length, replicate}
+use Rattle.frame.specs.Frame.{short, encode, sum, parse, parseShort, parseLong, parseBody}
+use Rattle.values.specs.Values.{makerCode, bcd, typeG, typeF, idBytes, nibbles, decimal, little}
+use Rattle.seconds.specs.Seconds.{whole, elapsedOf, notBelow0}
+use Rattle.meter.specs.Meter.{hears, put, alike, matches, partNow, readoutsNow, asked}
+use Rattle.meter.specs.Response.{fixedData, head, clockF, heatFirst, heatSecond, electricity, water, userData, response, damaged, readout}
+use Rattle.meter.specs.Hear.{rates, target, nke, request, select, commanded, listens, hear}
+use Rattle.scenarios.specs.Tables.{media, faults}
+use Rattle.scenarios.specs.Layout.{readTexts, readRecords}
+use Rattle.scenarios.specs.Check.{goodId, goodMaker, check}
+use Rattle.scenarios.specs.Opening.{capacity, ownBaud, seedOf, fresh, openRecords, openList}
+use Rattle.scenarios.specs.Builtins.{ok10}
+use Rattle.bus.specs.Plain.{Plain, blank, joined}
+use Rattle.bus.specs.Steps.{heardBy, handled, steps, settled}
+use Rattle.bus.specs.Calls.{afterOpening, goodClock, send}
+use Rattle.search.specs.Walk.{one, many, maskDigits, mask, reading, ask, probe, good, idOf, entryOf, read, ten, walk, wholeWalk, searchCall}
+use Rattle.search.specs.Entries.{atBusBaud, D}
+use Rattle.search.specs.declared.EntryRecord.{EntryRecord}
+use Rattle.search.specs.declared.Kind.the-variants.{One}
+use Rattle.search.specs.Call.{opening, afterCall, afterCalls}
+use Rattle.search.specs.Demand.{Demanded}
+use Rattle.search.proofs.Bound.{D-none}
+use Rattle.search.proofs.Demanded.{demanded}
+use Rattle.table.specs.Table.{zeroSeconds, october, opened, walked, outcome, busyAt11, noMeter, oneMeter, twice, Table}
+
+-- to unfold this is to unfold every definition that a search computes with
+everything : ℕ
+unfolding encode sum parse parseShort parseLong parseBody makerCode bcd typeG typeF idBytes nibbles decimal little whole elapsedOf sub round notBelow0 hears put alike matches partNow readoutsNow asked fixedData head clockF heatFirst heatSecond electricity water userData response damaged readout rates target nke request select commanded listens hear media faults readTexts readRecords goodId goodMaker check capacity ownBaud seedOf fresh openRecords openList blank joined heardBy handled steps settled afterOpening goodClock send ten walk wholeWalk maskDigits mask reading ask probe good idOf entryOf read
+everything = 0
+
+line-a : encode (mask []) ≡ 0x68 ∷ 0x0B ∷ 0x0B ∷ 0x68 ∷ 0x53 ∷ 0xFD ∷ 0x52 ∷ 0xFF ∷ 0xFF ∷ 0xFF ∷ 0xFF ∷ 0xFF ∷ 0xFF ∷ 0xFF ∷ 0xFF ∷ 0x9A ∷ 0x16 ∷ []
+unfolding everything
+line-a = refl
+
+line-e : (send (encode (short 0x5B 11)) october (opened busyAt11)) .segment .queue ≡ 0x68 ∷ 0x04 ∷ 0x04 ∷ 0x68 ∷ 0x08 ∷ 0x0B ∷ 0x70 ∷ 0x08 ∷ 0x8B ∷ 0x16 ∷ []
+unfolding everything busyAt11
+line-e = refl
+
+line-j-none : outcome (walked noMeter) ≡ ([], 1, false)
+unfolding everything noMeter
+line-j-none = refl
+
+line-j-one : outcome (walked oneMeter) ≡ (one (6 ∷ 1 ∷ 0 ∷ 0 ∷ 0 ∷ 0 ∷ 0 ∷ 1 ∷ []) ∷ [], 1, false)
+unfolding everything oneMeter
+line-j-one = refl
+
+line-k : outcome (walked twice) ≡ (many (7 ∷ 7 ∷ 7 ∷ 7 ∷ 7 ∷ 7 ∷ 7 ∷ 7 ∷ []) 2 ∷ [], 81, false)
+unfolding everything twice
+line-k = refl
+
+line-l : (walked ok10) .probes ≡ 201
+unfolding everything ok10
+line-l = refl
+
+not-spent : (walked ok10) .spent ≡ false
+unfolding everything ok10
+not-spent = refl
+
+-- ---- the price of ok10, by demand 3: its first and only search
+
+lent : List EntryRecord
+lent = replicate 64 (record { kind = One; digits = replicate 8 0; count = 0 })
+
+ok10-demanded : Demanded 10000 lent (opened ok10) (walked ok10) (searchCall october 10000 lent (opened ok10))
+unfolding everything ok10 searchCall afterCall afterCalls lent
+ok10-demanded = demanded ok10 2400 false zeroSeconds [] october 10000 lent refl
+
+line-l-price : 1 + 10 * D (atBusBaud (opened ok10)) ≡ 201
+unfolding everything ok10
+line-l-price = omega (arith, line-l, ok10-demanded .steady (refl, (refl, (refl, (refl, (refl, (refl, (refl, (refl, (refl, (refl, tt)))))))))) .complete not-spent .probes)
+
+pub table : Table
+unfolding makerCode bcd idBytes maskDigits typeG joined whole elapsedOf round sub seedOf decimal
+table =
+    record {
+      a = line-a;
+      b = refl;
+      c = (refl, refl, refl);
+      d = refl;
+      e = line-e;
+      f = refl;
+      g = refl;
+      h = (refl, refl);
+      i = refl;
+      j-none = line-j-none;
+      j-one = line-j-one;
+      j = λ s h. omega (arith, D-none (atBusBaud s) h);
+      k = line-k;
+      l = line-l;
+      l-price = line-l-price;
+    }

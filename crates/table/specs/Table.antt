@@ -1,0 +1,95 @@
+-- 01, "Table to be shown true": (a) to (l), and what they speak of.
+use mathlib.Core.Path.{_≡_}
+use mathlib.Core.Bool.{Bool, true, false}
+use mathlib.Core.List.{List, [], _∷_}
+use Prim.Native.Nat.{ℕ, _+_, _*_, _≤_}
+use lib.IntN.{pos}
+use lib.Ieee.{Float, nan, fin, binary64, round}
+use lib.ListN.{length}
+use Rattle.frame.specs.Frame.{short, encode}
+use Rattle.values.specs.Values.{makerCode, bcd, typeG, idBytes}
+use Rattle.seconds.specs.Seconds.{whole, last32, elapsedOf}
+use Rattle.meter.specs.declared.Clock.{Clock}
+use Rattle.scenarios.specs.Opening.{seedOf}
+use Rattle.scenarios.specs.Builtins.{ok10}
+use Rattle.bus.specs.Plain.{Plain, blank, joined}
+use Rattle.bus.specs.Calls.{afterOpening, send}
+use Rattle.search.specs.Walk.{maskDigits, mask, Entry, one, many, Walked, wholeWalk}
+use Rattle.search.specs.Entries.{atBusBaud, D}
+
+-- 0 s
+abbrev pub zeroSeconds : Float
+zeroSeconds = fin false 0 (pos 0)
+
+-- now 0, 2026-10-01 00:00
+abbrev pub october : Clock
+october = record { now = zeroSeconds; year = 2026; month = 10; day = 1; hour = 0; minute = 0 }
+
+-- a list opened at 2400 without the flag, origin 0
+abbrev pub opened : List ℕ → Plain
+opened list = afterOpening list 2400 false zeroSeconds blank
+
+-- its search with an allowance of 10,000
+abbrev pub walked : List ℕ → Walked
+walked list = wholeWalk october 10000 (opened list)
+
+-- entries, probes, spent or not
+abbrev pub outcome : Walked → List Entry × ℕ × Bool
+outcome w = (w .entries, w .probes, w .spent)
+
+-- water SEN 11000011 at 11, fault busy
+unfoldable pub busyAt11 : List ℕ
+busyAt11 =
+    0x01 ∷ 0x00 ∷ 0x1F
+    ∷ 0x1E ∷ 0x0B ∷ 0x10 ∷ 0x00 ∷ 0x00 ∷ 0x00 ∷ 0x00 ∷ 0x08 ∷ 0x31 ∷ 0x31 ∷ 0x30 ∷ 0x30 ∷ 0x30 ∷ 0x30 ∷ 0x31 ∷ 0x31 ∷ 0x03 ∷ 0x53 ∷ 0x45 ∷ 0x4E ∷ 0x05 ∷ 0x77 ∷ 0x61 ∷ 0x74 ∷ 0x65 ∷ 0x72 ∷ 0x04 ∷ 0x62 ∷ 0x75 ∷ 0x73 ∷ 0x79
+    ∷ []
+
+-- no meter
+unfoldable pub noMeter : List ℕ
+noMeter =
+    0x01 ∷ 0x00 ∷ 0x00
+    ∷ []
+
+-- heat KAM 61000001 at 1, fault none
+unfoldable pub oneMeter : List ℕ
+oneMeter =
+    0x01 ∷ 0x00 ∷ 0x1E
+    ∷ 0x1D ∷ 0x01 ∷ 0x01 ∷ 0x00 ∷ 0x00 ∷ 0x00 ∷ 0x00 ∷ 0x08 ∷ 0x36 ∷ 0x31 ∷ 0x30 ∷ 0x30 ∷ 0x30 ∷ 0x30 ∷ 0x30 ∷ 0x31 ∷ 0x03 ∷ 0x4B ∷ 0x41 ∷ 0x4D ∷ 0x04 ∷ 0x68 ∷ 0x65 ∷ 0x61 ∷ 0x74 ∷ 0x04 ∷ 0x6E ∷ 0x6F ∷ 0x6E ∷ 0x65
+    ∷ []
+
+-- water KAM 77777777 at 1, fault none; water SEN 77777777 at 2, fault none
+unfoldable pub twice : List ℕ
+twice =
+    0x01 ∷ 0x00 ∷ 0x3E
+    ∷ 0x1E ∷ 0x01 ∷ 0x01 ∷ 0x00 ∷ 0x00 ∷ 0x00 ∷ 0x00 ∷ 0x08 ∷ 0x37 ∷ 0x37 ∷ 0x37 ∷ 0x37 ∷ 0x37 ∷ 0x37 ∷ 0x37 ∷ 0x37 ∷ 0x03 ∷ 0x4B ∷ 0x41 ∷ 0x4D ∷ 0x05 ∷ 0x77 ∷ 0x61 ∷ 0x74 ∷ 0x65 ∷ 0x72 ∷ 0x04 ∷ 0x6E ∷ 0x6F ∷ 0x6E ∷ 0x65
+    ∷ 0x1E ∷ 0x02 ∷ 0x01 ∷ 0x00 ∷ 0x00 ∷ 0x00 ∷ 0x00 ∷ 0x08 ∷ 0x37 ∷ 0x37 ∷ 0x37 ∷ 0x37 ∷ 0x37 ∷ 0x37 ∷ 0x37 ∷ 0x37 ∷ 0x03 ∷ 0x53 ∷ 0x45 ∷ 0x4E ∷ 0x05 ∷ 0x77 ∷ 0x61 ∷ 0x74 ∷ 0x65 ∷ 0x72 ∷ 0x04 ∷ 0x6E ∷ 0x6F ∷ 0x6E ∷ 0x65
+    ∷ []
+
+pub record Table : Type 0 where
+  -- (a) wildcard probe
+  pub a : encode (mask []) ≡ 0x68 ∷ 0x0B ∷ 0x0B ∷ 0x68 ∷ 0x53 ∷ 0xFD ∷ 0x52 ∷ 0xFF ∷ 0xFF ∷ 0xFF ∷ 0xFF ∷ 0xFF ∷ 0xFF ∷ 0xFF ∷ 0xFF ∷ 0x9A ∷ 0x16 ∷ []
+  -- (b) mask 1
+  pub b : idBytes (maskDigits (1 ∷ [])) ≡ 0xFF ∷ 0xFF ∷ 0xFF ∷ 0x1F ∷ []
+  -- (c) KAM, SEN, empty
+  pub c : (makerCode (0x4B ∷ 0x41 ∷ 0x4D ∷ []) ≡ 0x2C2D) × (makerCode (0x53 ∷ 0x45 ∷ 0x4E ∷ []) ≡ 0x4CAE) × (makerCode [] ≡ 0x0000)
+  -- (d) 12345 in four BCD bytes
+  pub d : bcd 4 12345 ≡ 0x45 ∷ 0x23 ∷ 0x01 ∷ 0x00 ∷ []
+  -- (e) busy at 11, asked by REQ_UD2
+  pub e : (send (encode (short 0x5B 11)) october (opened busyAt11)) .segment .queue ≡ 0x68 ∷ 0x04 ∷ 0x04 ∷ 0x68 ∷ 0x08 ∷ 0x0B ∷ 0x70 ∷ 0x08 ∷ 0x8B ∷ 0x16 ∷ []
+  -- (f) 01 F0 over 03
+  pub f : joined ((0x01 ∷ 0xF0 ∷ []) ∷ (0x03 ∷ []) ∷ []) ≡ 0x01 ∷ 0xF0 ∷ []
+  -- (g) 30.9.2026
+  pub g : typeG 2026 9 30 ≡ 0x5E ∷ 0x39 ∷ []
+  -- (h) 59.9 s, the f64 nearest to 599 / 10, and NaN
+  pub h : (whole last32 (elapsedOf (round binary64 false 599 10) zeroSeconds) ≡ 59) × (whole last32 (elapsedOf nan zeroSeconds) ≡ 0)
+  -- (i) the seed of id 12345678
+  pub i : seedOf false (1 ∷ 2 ∷ 3 ∷ 4 ∷ 5 ∷ 6 ∷ 7 ∷ 8 ∷ []) ≡ 43672
+  -- (j) no meter, one meter; and the price of no or one meter at bus baud, whatever it is
+  pub j-none : outcome (walked noMeter) ≡ ([], 1, false)
+  pub j-one : outcome (walked oneMeter) ≡ (one (6 ∷ 1 ∷ 0 ∷ 0 ∷ 0 ∷ 0 ∷ 0 ∷ 1 ∷ []) ∷ [], 1, false)
+  pub j : (s : Plain) → length (atBusBaud s) ≤ 1 → 1 + 10 * D (atBusBaud s) ≡ 1
+  -- (k) 77777777 twice
+  pub k : outcome (walked twice) ≡ (many (7 ∷ 7 ∷ 7 ∷ 7 ∷ 7 ∷ 7 ∷ 7 ∷ 7 ∷ []) 2 ∷ [], 81, false)
+  -- (l) ok10 at 2400: 201 probes, and its price
+  pub l : (walked ok10) .probes ≡ 201
+  pub l-price : 1 + 10 * D (atBusBaud (opened ok10)) ≡ 201
