@@ -36,7 +36,7 @@ text-is s start len x y p q = go (leb start (length s)) refl
 
 -- ---- the same text
 
-and-false : (b : Bool) → b && false ≡ false
+pub and-false : (b : Bool) → b && false ≡ false
 and-false true = refl
 and-false false = refl
 

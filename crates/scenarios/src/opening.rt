@@ -26,8 +26,8 @@ pub fn own_baud(own: u32, bus: u32, practice: bool) -> u32
     if own == 0 {
         return bus;
     }
-    if practice {
-        if own == bus {
+    if own == bus {
+        if practice {
             return 2400;
         }
         return own;

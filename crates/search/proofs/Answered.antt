@@ -15,7 +15,7 @@ use Rattle.scenarios.specs.Layout.{Listed, Layout, fits, noFit, readRecords}
 use Rattle.scenarios.specs.Check.{check, allPass}
 use Rattle.scenarios.specs.Opening.{capacity, fresh, Opened, opens, refuses, refusesRecord, openRecords, openList}
 use Rattle.bus.specs.Plain.{Plain}
-use Rattle.bus.specs.Calls.{OpeningGives}
+use Rattle.scenarios.specs.Opening.{OpeningGives}
 use Rattle.search.specs.Call.{Call, opening, sending, receiving, clearing, changing, searching, afterCall}
 use Rattle.search.specs.Answer.{Answer, opened, Gives, Answers}
 

@@ -15,7 +15,8 @@ use Rattle.meter.specs.PlainMeter.{PlainMeter}
 use Rattle.meter.specs.declared.Clock.{Clock}
 use Rattle.meter.specs.declared.Fault.the-variants.{None}
 use Rattle.meter.specs.Meter.{hears}
-use Rattle.meter.specs.View.{digitsOf, plainMeter}
+use Rattle.values.specs.Values.{digitsOf}
+use Rattle.meter.specs.View.{plainMeter}
 use Rattle.meter.proofs.HearLaws.{Alike, probed-alike, read-alike}
 use Rattle.scenarios.specs.Opening.{capacity}
 use Rattle.bus.specs.Plain.{Plain}

@@ -126,7 +126,7 @@ module _ (s : ℕ) (b : Bool) where
 -- ---- select, with its two tests handed in
 
 abbrev pub putB : Bool → PlainMeter → PlainMeter
-putB f n = if f then with n (n .primary) (n .baud) (n .selected) (n .part) (n .last) (n .access) (n .readouts) (not (n .hearsNext)) else n
+putB f n = if f then with n (n .primary, n .baud) (n .selected) (n .part, n .last) (n .access, n .readouts) (not (n .hearsNext)) else n
 
 abbrev selectB : Bool → Bool → PlainMeter → Heard
 selectB b f n =
@@ -208,7 +208,7 @@ pub record Bits (f : Fault) (s : ℕ) : Type 0 where
   pub many : on (s / 128 % 2) ≡ tooMany f
 
 -- they stand in the second nibble
-in-nibble : (y : ℕ) → (y % 2 ≡ y % 16 % 2) × (y / 2 % 2 ≡ y % 16 / 2 % 2) × (y / 4 % 2 ≡ y % 16 / 4 % 2) × (y / 8 % 2 ≡ y % 16 / 8 % 2)
+pub in-nibble : (y : ℕ) → (y % 2 ≡ y % 16 % 2) × (y / 2 % 2 ≡ y % 16 / 2 % 2) × (y / 4 % 2 ≡ y % 16 / 4 % 2) × (y / 8 % 2 ≡ y % 16 / 8 % 2)
 in-nibble y = (omega arith, omega arith, omega arith, omega arith)
 
 halves : (x : ℕ) → (x / 32 ≡ x / 16 / 2) × (x / 64 ≡ x / 16 / 4) × (x / 128 ≡ x / 16 / 8)

@@ -109,7 +109,7 @@ module _ (bus : ℕ) (m : Meter) where
 -- ---- a meter back from its mark
 
 pub unmark-here : (bus s : ℕ) (m : Meter) (l : LastFcb) (p : ℕ) → m .baud ≡ bus → l ≡ lastIn (on (s / 8 % 2)) (on (s / 2 % 2)) (m .last) → p ≡ partIn (on (s / 8 % 2)) (on (s / 2 % 2)) (m .part)
-    → with (plainMeter m) (m .primary) (m .baud) (on (s % 2)) p l (s / 65536 % 256) (s / 256 % 256) (on (s / 4 % 2)) ≡ seenAs bus (plainMeter m) s
+    → with (plainMeter m) (m .primary, m .baud) (on (s % 2)) (p, l) (s / 65536 % 256, s / 256 % 256) (on (s / 4 % 2)) ≡ seenAs bus (plainMeter m) s
 unfolding seenAs standing
 unmark-here bus s m l p h el ep = rw (eq-eqb (m .baud) bus h, el, ep)
 

@@ -14,7 +14,7 @@ use Rattle.meter.specs.declared.Fault.{Fault}
 use Rattle.meter.specs.declared.Fault.the-variants.{None, Checksum, Truncated, Busy, WrongAddress, Flaky, TooMany}
 use Rattle.search.specs.Marks.{places, bitIf, sweptBy}
 use Rattle.search.specs.Packing.{faultBits, idOf, markOf, packed, Bounded, on, stand, standing, seenAs, seenBy}
-use Rattle.search.proofs.MarkLaws.{Bits, bits-kept, bit-if, bit-on, bit-small, Silent, silent-zero}
+use Rattle.search.proofs.MarkLaws.{in-nibble, Bits, bits-kept, bit-if, bit-on, bit-small, Silent, silent-zero}
 use Rattle.search.proofs.PackedProbe.{Holds, AllHold, seenAll}
 
 -- ---- one meter
@@ -29,7 +29,7 @@ total-parts x y f r a s px py pf pr pa e =
     let c : s / 256 ≡ r + a * 256 = omega arith in
     let d : s / 65536 ≡ a = omega arith in
     let l : s % 16 ≡ x + y * 4 = omega arith in
-    let q : (s % 2 ≡ s % 16 % 2) × (s / 2 % 2 ≡ s % 16 / 2 % 2) × (s / 4 % 2 ≡ s % 16 / 4 % 2) × (s / 8 % 2 ≡ s % 16 / 8 % 2) = in-nibble s in (
+    let q = in-nibble s in (
       q .0 ∙ ap (λ n. n % 2) l ∙ first x y px py .0,
       q .1 ∙ ap (λ n. n / 2 % 2) l ∙ first x y px py .1,
       q .2 ∙ ap (λ n. n / 4 % 2) l ∙ first x y px py .2,
@@ -44,9 +44,6 @@ total-parts x y f r a s px py pf pr pa e =
 
     byte : (r w x : ℕ) → r < 256 → x ≡ r + w * 256 → x % 256 ≡ r
     byte r w x h e = omega arith
-
-    in-nibble : (s : ℕ) → (s % 2 ≡ s % 16 % 2) × (s / 2 % 2 ≡ s % 16 / 2 % 2) × (s / 4 % 2 ≡ s % 16 / 4 % 2) × (s / 8 % 2 ≡ s % 16 / 8 % 2)
-    in-nibble s = (omega arith, omega arith, omega arith, omega arith)
 
     first : (x y : ℕ) → x ≤ 1 → y ≤ 1 → ((x + y * 4) % 2 ≡ x) × ((x + y * 4) / 2 % 2 ≡ 0) × ((x + y * 4) / 4 % 2 ≡ y) × ((x + y * 4) / 8 % 2 ≡ 0)
     first x y px py = (omega arith, omega arith, omega arith, omega arith)

@@ -4,7 +4,7 @@ use mathlib.Core.List.{List}
 use Prim.Native.Nat.{ℕ, zero, suc, _+_, _*_, _/_, _%_, _≤_, _<_}
 use native.Mathlib.Omega.{arith}
 use lib.ListN.{length}
-use Rattle.meter.specs.View.{digitsOf}
+use Rattle.values.specs.Values.{digitsOf}
 use Rattle.search.specs.declared.EntryRecord.{EntryRecord}
 use Rattle.search.specs.Walk.{one, mute, many, recordOf}
 use Rattle.search.specs.Packed.{spanOf}

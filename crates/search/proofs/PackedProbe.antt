@@ -1,15 +1,16 @@
 -- Sending a mask to packed meters is 01's probe of the segment that they stand for: the mask goes through send, the E5 are counted, the reply is taken whole.
 use mathlib.Core.Path.{_≡_, refl, sym, ap, ap₂, _∙_}
-use mathlib.Core.Bool.{Bool, true, false, _&&_, _||_, not}
+use mathlib.Core.Bool.{Bool, true, false, _&&_, _||_, not, and-comm}
 use mathlib.Core.List.{List, [], _∷_, map}
 use Prim.Native.Nat.{ℕ, zero, suc, _+_, _/_, _%_, _≤_, _<_}
+use native.Mathlib.Nat.{zero-add}
 use native.Mathlib.Omega.{arith}
 use lib.Dec.{eqb}
 use lib.Ieee.{Float}
 use lib.ListN.{length}
 use Rattle.laws.specs.Words.{if_then_else_, keep, Every}
 use Rattle.meter.specs.PlainMeter.{PlainMeter}
-use Rattle.meter.specs.View.{digitsOf}
+use Rattle.values.specs.Values.{digitsOf}
 use Rattle.meter.specs.declared.Clock.{Clock}
 use Rattle.meter.specs.Meter.{hears, flaky, matches}
 use Rattle.meter.specs.Hear.{Heard, quiet, select, hear}
@@ -113,12 +114,6 @@ standing-hears m s k = go (flaky (m .fault)) (k .steady)
     go true e = sym (ap (λ x. x || on (s / 4 % 2)) e)
     go false e = sym (ap (λ x. x || on (s / 4 % 2)) e)
 
-and-swap : (a b : Bool) → (a && b) ≡ (b && a)
-and-swap true true = refl
-and-swap true false = refl
-and-swap false true = refl
-and-swap false false = refl
-
 module _ (k : Clock) (bus : ℕ) (o : Float) (p : List ℕ) (u : ℕ) (w : Prefix p) (l : length p + u ≡ 8) where
   abbrev low : ℕ
   low = lowOf p u
@@ -162,7 +157,7 @@ module _ (k : Clock) (bus : ℕ) (o : Float) (p : List ℕ) (u : ℕ) (w : Prefi
         go true e =
             ap (λ b. called k bus o p (if b then standing m s else m)) e
             ∙ ap₂ (λ x y. x && (begins p (m .digits) && y)) e (standing-hears m s (h .bits e))
-            ∙ and-swap (begins p (m .digits)) (on (s / 16 % 2) || on (s / 4 % 2))
+            ∙ and-comm (begins p (m .digits)) (on (s / 16 % 2) || on (s / 4 % 2))
         go false e =
             ap (λ b. called k bus o p (if b then standing m s else m)) e
             ∙ ap (λ x. x && (begins p (m .digits) && hears m)) e
@@ -231,6 +226,3 @@ probe-packed k bus o gc p u w l ms ks ss few q =
     probe-rest k bus o gc p w (seenAll bus ms ss) (seen-eight k bus o p u w l ms ks ss q) (omega (arith, seen-length bus ms ks ss q))
     ∙ ap₂ (λ n ns. (n, atRest bus o ns)) (sym (all-called k bus o p u w l places 0 ms ks ss few q ∙ zero-add (length (keep (called k bus o p) (seenAll bus ms ss)))))
     (all-probed k bus o p u w l places ms ks ss few q)
-  where
-    zero-add : (n : ℕ) → 0 + n ≡ n
-    zero-add n = omega arith

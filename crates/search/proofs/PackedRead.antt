@@ -1,6 +1,6 @@
 -- Reading the one selected of packed meters is 01's reading of the segment that they stand for: REQ_UD2 goes through send, and the reply is taken whole.
 use mathlib.Core.Path.{_≡_, refl, sym, ap, ap₂, _∙_, subst}
-use mathlib.Core.Bool.{Bool, true, false, _&&_, _||_, not, false≢true}
+use mathlib.Core.Bool.{Bool, true, false, _&&_, _||_, not, false≢true, and-false, or-true}
 use mathlib.Core.List.{List, [], _∷_, map}
 use Prim.Native.Nat.{ℕ, zero, suc, _+_, _/_, _%_, _≤_}
 use native.Mathlib.Omega.{arith}
@@ -8,6 +8,7 @@ use lib.Dec.{eqb, leb, ltb}
 use lib.Ieee.{Float}
 use lib.ListN.{length}
 use borrow.Author.Tests.{eqb-true, eqb-false, leb-true, leb-false, lt-ltb, le-ltb}
+use Rattle.laws.proofs.Lists.{and-r}
 use Rattle.laws.specs.Words.{if_then_else_, keep, Every}
 use Rattle.frame.specs.Frame.{parse}
 use Rattle.meter.specs.PlainMeter.{PlainMeter}
@@ -64,22 +65,6 @@ AllIfOdd bus p [] ss = Unit {0}
 AllIfOdd bus p (m ∷ ms) [] = Unit {0}
 AllIfOdd bus p (m ∷ ms) (s ∷ ss) = IfOdd bus p m s × AllIfOdd bus p ms ss
 
-and-first : (a b : Bool) → a && b ≡ true → a ≡ true
-and-first true b h = refl
-and-first false b h = h
-
-and-second : (a b : Bool) → a && b ≡ true → b ≡ true
-and-second true b h = h
-and-second false b h = absurd (false≢true h)
-
-or-true : (a : Bool) → a || true ≡ true
-or-true true = refl
-or-true false = refl
-
-and-false : (a : Bool) → a && false ≡ false
-and-false true = refl
-and-false false = refl
-
 one-odd : (bus : ℕ) (p : List ℕ) (u : ℕ) → Prefix p → length p + u ≡ 8 → (m : PlainMeter) (key s : ℕ) → Holds bus m key s
     → IfOdd bus p m (masked (lowOf p u) (lowOf p u + spanOf u) key s)
 unfolding masked
@@ -104,7 +89,7 @@ one-odd bus p u w l m key s h odd = go (eqb (m .baud) bus) refl
             fresh = eqb-true (t / 2 % 2) 1 (marked-fresh s b ∙ ap (λ x. on (s / 2 % 2) || x) yes ∙ or-true (on (s / 2 % 2)));
             clear = omega (arith, eqb-false (t / 8 % 2) 1 (marked-clear s b ∙ ap (λ x. on (s / 8 % 2) && not x) yes ∙ and-false (on (s / 8 % 2))));
           };
-          has = ap (begins p) (h .digits) ∙ sym (inside-begins p u key w l (h .small)) ∙ and-second (on (s / 16 % 2) || on (s / 4 % 2)) b yes;
+          has = ap (begins p) (h .digits) ∙ sym (inside-begins p u key w l (h .small)) ∙ and-r (on (s / 16 % 2) || on (s / 4 % 2)) b yes;
         }
     go false e = absurd (false≢true (sym (ap₂ (λ x y. (x || y) && b) (h .away e .steady) (h .away e .deaf)) ∙ yes))
 

@@ -3,6 +3,7 @@ use mathlib.Core.Path.{_≡_, refl, sym, ap, ap₂, _∙_, subst}
 use mathlib.Core.Bool.{Bool, true, false}
 use mathlib.Core.List.{List, [], _∷_, _++_, map}
 use Prim.Native.Nat.{ℕ, zero, suc, _+_, _*_, _≤_, _<_}
+use native.Mathlib.Nat.{zero-add}
 use native.Mathlib.Omega.{arith}
 use lib.Dec.{eqb, leb, ltb}
 use lib.Ieee.{Float}
@@ -25,7 +26,7 @@ use Rattle.search.proofs.PackedSteps.{once-stop, once-one, once-other}
 use Rattle.search.proofs.Ranges.{lowOf, low-first, low-next}
 use Rattle.search.proofs.PackedEntries.{record-many}
 use Rattle.search.proofs.PackedProbe.{AllHold, seenAll, all-kept, masked-keeps, probe-packed}
-use Rattle.search.proofs.PackedRead.{read-keeps, all-odd, acked-odds, read-packed}
+use Rattle.search.proofs.PackedRead.{read-keeps, all-odd, odds, acked-odds, read-packed}
 
 -- ---- the digits of a row
 
@@ -109,18 +110,12 @@ module _ (k : Clock) (bus : ℕ) (o : Float) (gc : goodClock k ≡ true) (allowa
       by-count paid zero e =
           subst (λ (x : Once). Same (fol more x) (countedP (abs ss) (image t))) (once-other ks allowance low high t paid 0 ss refl (sym e) (λ z. omega arith)) (refl, good)
       by-count paid (suc zero) e =
-          let r = read-packed k bus o gc p u w l ms ks ss few good (all-odd bus p u w l places ms ks (t .marks) few g) (sym (plain-sum (acked-odds low high places 0 ks (t .marks))) ∙ e) in
+          let r = read-packed k bus o gc p u w l ms ks ss few good (all-odd bus p u w l places ms ks (t .marks) few g) (sym (acked-odds low high places 0 ks (t .marks) ∙ zero-add (odds places ks ss)) ∙ e) in
           subst (λ (x : Once). Same (fol more x) (let q = read k p (abs ss) in notedP (List EntryRecord) Plain push (probe k) (read k) allowance (q .0) (q .1) (countedP (abs ss) (image t))))
           (once-one ks allowance low high t paid 1 ss refl (sym e) refl) (
             ap₂ (λ es s. record { entries = es; probes = t .probes + 1; spent = false; state = s }) (sym (push-is ((read k p (abs ss)) .0) (foldBy readKey high places ks ss) (t .entries) (r .0))) (sym (r .1)),
             all-kept readBy read-keeps bus places ms ks ss good,
           )
-        where
-          plain-sum : {x y : ℕ} → x ≡ 0 + y → x ≡ y
-          plain-sum {x} {y} q = q ∙ zero-add y
-            where
-              zero-add : (n : ℕ) → 0 + n ≡ n
-              zero-add n = omega arith
       by-count paid (suc (suc n)) e =
           subst (λ (x : Once). Same (fol more x) (more′ (suc (suc n)) (countedP (abs ss) (image t))))
           (once-other ks allowance low high t paid (suc (suc n)) ss refl (sym e) (λ z. omega arith))

@@ -1,14 +1,14 @@
 -- The ids that have a prefix are those from its lowest to its highest number; a number and its eight digits.
 use mathlib.Core.Path.{_≡_, refl, sym, ap, ap₂, _∙_}
-use mathlib.Core.Bool.{Bool, true, false, _&&_}
+use mathlib.Core.Bool.{Bool, true, false, _&&_, and-false}
 use mathlib.Core.List.{List, [], _∷_, _++_, append-assoc, append-nil}
 use Prim.Native.Nat.{ℕ, zero, suc, _+_, _-_, _*_, _/_, _%_, _≤_, _<_}
 use native.Mathlib.Omega.{arith}
 use lib.Dec.{eqb, leb}
 use borrow.Author.Tests.{le-leb, lt-leb, eqb-true, eqb-false, leb-true, leb-false}
-use lib.ListN.{length, replicate}
+use lib.ListN.{length, replicate, length-append, length-replicate}
 use Rattle.laws.specs.Words.{Every}
-use Rattle.meter.specs.View.{digitsOf}
+use Rattle.values.specs.Values.{digitsOf}
 use Rattle.search.specs.Walk.{maskDigits}
 use Rattle.search.proofs.Model.{Prefix}
 use Rattle.search.proofs.MaskLaws.{digits-small}
@@ -22,23 +22,13 @@ keyFrom a [] = a
 keyFrom a (d ∷ ds) = keyFrom (a * 16 + d) ds
 
 abbrev pub zeros : ℕ → List ℕ
-zeros zero = []
-zeros (suc u) = 0 ∷ zeros u
+zeros u = replicate u 0
 
 abbrev pub effs : ℕ → List ℕ
-effs zero = []
-effs (suc u) = 15 ∷ effs u
+effs u = replicate u 0xF
 
 abbrev pub Nibbles : List ℕ → Type 0
 Nibbles = Every (λ d. d < 16)
-
-length-zeros : (u : ℕ) → length (zeros u) ≡ u
-length-zeros zero = refl
-length-zeros (suc u) = ap suc (length-zeros u)
-
-length-effs : (u : ℕ) → length (effs u) ≡ u
-length-effs zero = refl
-length-effs (suc u) = ap suc (length-effs u)
 
 -- a number that is behind stays behind
 behind : (xs ys : List ℕ) (a b : ℕ) → a < b → length xs ≡ length ys → Nibbles xs → keyFrom a xs < keyFrom b ys
@@ -60,14 +50,6 @@ nibbles-tail [] zero n = tt
 nibbles-tail [] (suc u) n = (omega arith, nibbles-tail [] u tt)
 nibbles-tail (d ∷ p) u n = (n .0, nibbles-tail p u (n .1))
 
-length-tail : (p q : List ℕ) → length (p ++ q) ≡ length p + length q
-length-tail [] q = omega arith
-length-tail (d ∷ p) q = omega (arith, length-tail p q)
-
-and-false : (b : Bool) → (b && false) ≡ false
-and-false true = refl
-and-false false = refl
-
 -- to have a prefix is to lie in its range
 pub range-begins : (u : ℕ) (p ds : List ℕ) (a : ℕ) → Nibbles p → Nibbles ds → length ds ≡ length p + u
     → inside (keyFrom a (p ++ zeros u)) (keyFrom a (p ++ effs u)) (keyFrom a ds) ≡ begins p ds
@@ -85,11 +67,11 @@ range-begins u (d ∷ p) (x ∷ ds) a np nd l = go (eqb d x) (leb d x) refl refl
     go true t es et ih = rw (sym (eqb-true d x es)) ih
     go false true es et ih =
         let h : d < x = omega (arith, leb-true d x et, eqb-false d x es) in
-        let g = behind (p ++ effs u) ds (a * 16 + d) (a * 16 + x) (omega arith) (omega (arith, length-tail p (effs u), length-effs u)) (nibbles-tail p u (np .1)) in
+        let g = behind (p ++ effs u) ds (a * 16 + d) (a * 16 + x) (omega arith) (omega (arith, length-append p (effs u), length-replicate {A = ℕ} u 0xF)) (nibbles-tail p u (np .1)) in
         ap (λ z. leb (keyFrom (a * 16 + d) (p ++ zeros u)) (keyFrom (a * 16 + x) ds) && z) (lt-leb _ _ g) ∙ and-false (leb (keyFrom (a * 16 + d) (p ++ zeros u)) (keyFrom (a * 16 + x) ds))
     go false false es et ih =
         let h : x < d = omega (arith, leb-false d x et) in
-        let g = behind ds (p ++ zeros u) (a * 16 + x) (a * 16 + d) (omega arith) (omega (arith, length-tail p (zeros u), length-zeros u)) (nd .1) in
+        let g = behind ds (p ++ zeros u) (a * 16 + x) (a * 16 + d) (omega arith) (omega (arith, length-append p (zeros u), length-replicate {A = ℕ} u 0)) (nd .1) in
         ap (λ z. z && leb (keyFrom (a * 16 + x) ds) (keyFrom (a * 16 + d) (p ++ effs u))) (lt-leb _ _ g)
 
 -- ---- the range's low end and its span, as the walk has them
@@ -138,15 +120,11 @@ key-append (d ∷ p) q a = key-append p q (a * 16 + d)
 pub high-of : (p : List ℕ) (u : ℕ) → keyFrom 0 (p ++ effs u) ≡ lowOf p u + spanOf u
 high-of p u = key-append p (effs u) 0 ∙ high-end u (keyFrom 0 p) ∙ ap (λ x. x + spanOf u) (sym (key-append p (zeros u) 0))
 
-pub effs-are : (u : ℕ) → effs u ≡ replicate u 0xF
-effs-are zero = refl
-effs-are (suc u) = ap (λ r. 15 ∷ r) (effs-are u)
-
 pub mask-effs : (p : List ℕ) (u : ℕ) → length p + u ≡ 8 → maskDigits p ≡ p ++ effs u
 unfolding maskDigits
 mask-effs p u l =
     let e : 8 - length p ≡ u = omega arith in
-    rw (e, effs-are)
+    rw e
 
 -- the row's first mask, and the next
 pub low-first : (p : List ℕ) (u : ℕ) → lowOf (p ++ 0 ∷ []) u ≡ lowOf p (suc u)
@@ -268,7 +246,7 @@ key-small ds l n = bounded ds 0 8 l n
 pub mask-digits : (p : List ℕ) (u : ℕ) → Prefix p → length p + u ≡ 8 → (digitsOf (lowOf p u + spanOf u) ≡ maskDigits p) × (lowOf p u + spanOf u < 0x100000000)
 mask-digits p u w l =
     let n : Nibbles (p ++ effs u) = nibbles-tail p u (digits-small p (w .digits)) in
-    let e : length (p ++ effs u) ≡ 8 = length-tail p (effs u) ∙ ap (λ x. length p + x) (length-effs u) ∙ l in (
+    let e : length (p ++ effs u) ≡ 8 = length-append p (effs u) ∙ ap (λ x. length p + x) (length-replicate {A = ℕ} u 0xF) ∙ l in (
       ap digitsOf (sym (high-of p u)) ∙ digits-key (p ++ effs u) e n ∙ sym (mask-effs p u l),
       omega (arith, high-of p u, key-small (p ++ effs u) e n),
     )

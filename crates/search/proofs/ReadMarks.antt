@@ -1,6 +1,6 @@
 -- What a reading does to a mark is what a request does to the meter that the mark stands for.
 use mathlib.Core.Path.{_≡_, refl, sym, ap, ap₂, _∙_}
-use mathlib.Core.Bool.{Bool, true, false, _&&_, _||_, not}
+use mathlib.Core.Bool.{Bool, true, false, _&&_, _||_, not, and-true, and-false}
 use Prim.Native.Nat.{ℕ, zero, suc, _+_, _*_, _/_, _%_, _≤_, _<_, min}
 use native.Mathlib.Omega.{arith}
 use lib.Dec.{eqb, ltb}
@@ -20,7 +20,6 @@ use Rattle.search.proofs.MarkLaws.{turned, tooMany, Bits, bits-kept, Si
 -- the readouts that a mark counts
 counted : (x n : ℕ) → x ≤ 1 → (f : Fault) → on x ≡ tooMany f → n < 256
     → (if eqb x 0 then n else (if ltb n 3 then n + 1 else 3)) % 256 ≡ readoutsNow f n
-unfolding readoutsNow
 counted zero n h None e l = omega arith
 counted zero n h Checksum e l = omega arith
 counted zero n h Truncated e l = omega arith
@@ -57,15 +56,11 @@ module _ (m : PlainMeter) where
   stand-request : (f he : Bool) (a r : ℕ)
       → requestB f (stand m true true he false a r)
       ≡ (if not f || he then stand m true true (turned he f) true ((a + 1) % 256) (readoutsNow (m .fault) r) else stand m true true (turned he f) false a r)
-  unfolding asked partNow
+  unfolding asked
   stand-request true true a r = refl
   stand-request true false a r = refl
   stand-request false true a r = refl
   stand-request false false a r = refl
-
-and-true : (b : Bool) → (b && true) ≡ b
-and-true true = refl
-and-true false = refl
 
 -- a mark that a mask has just selected
 pub record Fresh (m : PlainMeter) (s : ℕ) : Type 0 where
@@ -192,10 +187,6 @@ even-read s e =
     ∙ ap (λ h. s / 8 * 8 + h * 4 + s % 4) (ap (hearsOf s) put ∙ bit-is (hears-bit s false) ∙ ap (λ b. bitIf (turned (on (s / 4 % 2)) b)) (and-false (on (s / 32 % 2))) ∙ sym (bit-is (bit-of (s / 4 % 2) (omega arith))))
     ∙ omega arith
   where
-    and-false : (b : Bool) → (b && false) ≡ false
-    and-false true = refl
-    and-false false = refl
-
     put : s % 2 ≡ 0
     put = put-is s ∙ ap bitIf e
 

@@ -100,7 +100,7 @@ module _ (p : List ℕ) (w : Prefix p) (e : Float) (k : Clock) (n : PlainMeter) 
   error-mute c r h = ap (entryOf p) (r ∙ ap encode (resp-error c h)) ∙ entry-refused p (n .primary) (suc c)
 
   by-fault : (f : Fault) (before : ℕ) → n .fault ≡ f → n .readouts ≡ readoutsNow f before → entryOf p (readout e k n) ≡ (if failsBy f before then mute p else one (n .digits))
-  unfolding damaged readoutsNow
+  unfolding damaged
   by-fault None r h q = data-one (readout-is None h) (ap (λ f. error f (n .readouts)) h)
   by-fault Checksum r h q =
       let sh = userData-shape e k n (n .model) in

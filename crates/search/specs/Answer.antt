@@ -5,7 +5,8 @@ use mathlib.Core.List.{List, [], _∷_}
 use Prim.Native.Nat.{ℕ}
 use Rattle.scenarios.specs.Opening.{openList}
 use Rattle.bus.specs.Plain.{Plain}
-use Rattle.bus.specs.Calls.{OpeningGives, send, receive, changeBaud}
+use Rattle.scenarios.specs.Opening.{OpeningGives}
+use Rattle.bus.specs.Calls.{send, receive, changeBaud}
 use Rattle.search.specs.declared.EntryRecord.{EntryRecord}
 use Rattle.search.specs.Walk.{searchCall}
 use Rattle.search.specs.Call.{Call, opening, sending, receiving, clearing, changing, searching, afterCall}

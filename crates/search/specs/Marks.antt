@@ -12,10 +12,12 @@ use Rattle.laws.specs.Words.{if_then_else_}
 abbrev pub places : ℕ
 places = 64
 
+-- a test as a bit
 abbrev pub bitIf : Bool → ℕ
 bitIf true = 1
 bitIf false = 0
 
+-- the ids of a mask
 abbrev pub inside : ℕ → ℕ → ℕ → Bool
 inside low high key = leb low key && leb key high
 

@@ -39,6 +39,7 @@ pub record Noted (w : Walk) (es : List ℕ) (e : ℕ) (r : Walk) (fs : List ℕ)
   pub spent : r .spent ≡ w .spent
   pub room : length fs ≡ places
 
+-- stopped before the next probe
 abbrev pub stopR : Run → Run
 stopR t = record { entries = t .entries; probes = t .probes; spent = true; marks = t .marks }
 
@@ -46,6 +47,7 @@ stopR t = record { entries = t .entries; probes = t .probes; spent = true; marks
 abbrev pub countR : List ℕ → Run → Run
 countR ss t = record { entries = t .entries; probes = t .probes + 1; spent = false; marks = ss }
 
+-- one entry more; the marks are ss
 abbrev pub noteR : ℕ → List ℕ → Run → Run
 noteR e ss t = record { entries = pushR e (t .entries); probes = t .probes; spent = t .spent; marks = ss }
 
@@ -54,21 +56,23 @@ pub record Once : Type 0 where
   pub many : ℕ
   pub run : Run
 
+-- the same of the program, with the lent marks and entries
 unfoldable pub onceOf : Probed → List ℕ → List ℕ → Once
 onceOf r ss es = record { many = r .many; run = viewOf (r .walk) ss es }
 
--- n acknowledged: one is read
+-- n acknowledged: one is read, several are left to the caller
 abbrev pub heardR : List ℕ → ℕ → ℕ → List ℕ → Run → Once
 heardR ks high n ss t =
     if eqb n 1 then record { many = 0; run = noteR (foldBy readKey high places ks ss) (sweptBy readBy places ks ss) (countR ss t) }
     else record { many = n; run = countR ss t }
 
+-- one probe of the mask low..high, unless the allowance is spent
 unfoldable pub onceR : List ℕ → ℕ → ℕ → ℕ → Run → Once
 onceR ks allowance low high t =
     if leb allowance (t .probes) then record { many = 0; run = stopR t }
     else heardR ks high (foldBy (acked low high) 0 places ks (t .marks)) (sweptBy (masked low high) places ks (t .marks)) t
 
--- 16^u - 1
+-- how far a mask with u digits unknown goes: 16^u - 1
 unfoldable pub spanOf : ℕ → ℕ
 spanOf zero = 0
 spanOf (suc u) = spanOf u * 16 + 15
@@ -82,6 +86,7 @@ rowR f unit (suc n) l t = rowR f unit n (l + unit) (f l t)
 abbrev pub thenR : Once → (Run → Run) → Run
 thenR o several = if eqb (o .many) 0 then o .run else several (o .run)
 
+-- the walk from the mask that begins at low, with u digits unknown
 unfoldable pub walkR : List ℕ → ℕ → ℕ → ℕ → Run → Run
 walkR ks allowance zero low t =
     let o = onceR ks allowance low (low + spanOf 0) t in

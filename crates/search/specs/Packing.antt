@@ -7,7 +7,7 @@ use lib.ListN.{take, drop, replicate}
 use Rattle.laws.specs.Words.{if_then_else_}
 use Rattle.meter.specs.PlainMeter.{PlainMeter}
 use Rattle.meter.specs.Meter.{with}
-use Rattle.meter.specs.View.{digitsOf}
+use Rattle.values.specs.Values.{digitsOf}
 use Rattle.meter.specs.declared.Meter.{Meter}
 use Rattle.meter.specs.declared.Fault.{Fault}
 use Rattle.meter.specs.declared.Fault.the-variants.{None, Checksum, Truncated, Busy, WrongAddress, Flaky, TooMany}
@@ -36,6 +36,7 @@ markOf bus m =
     if eqb (m .baud) bus then bitIf (m .selected) + bitIf (m .hearing) * 4 + faultBits (m .fault) + m .readouts * 256 + m .access * 65536
     else 0
 
+-- a meter's key
 abbrev pub idOf : Meter → ℕ
 idOf m = m .id
 
@@ -51,10 +52,11 @@ pub record Bounded (m : Meter) : Type 0 where
 
 -- ---- a meter as its mark has it
 
+-- a bit is set
 abbrev pub on : ℕ → Bool
 on x = eqb x 1
 
--- last FCB clear; reset
+-- the part and the last FCB that a mark leaves: by whether the last FCB is clear, and whether a select reset them
 abbrev pub partIn : Bool → Bool → ℕ → ℕ
 partIn true fresh p = 0
 partIn false true p = 0
@@ -65,10 +67,12 @@ lastIn true fresh l = Clear
 lastIn false true l = Never
 lastIn false false l = l
 
+-- selected, reset, hears next, last FCB clear, access number, readouts
 abbrev pub stand : PlainMeter → Bool → Bool → Bool → Bool → ℕ → ℕ → PlainMeter
 stand m selected fresh hears clear access readouts =
-    with m (m .primary) (m .baud) selected (partIn clear fresh (m .part)) (lastIn clear fresh (m .last)) access readouts hears
+    with m (m .primary, m .baud) selected (partIn clear fresh (m .part), lastIn clear fresh (m .last)) (access, readouts) hears
 
+-- a meter at bus baud, as its mark has it
 unfoldable pub standing : PlainMeter → ℕ → PlainMeter
 standing m s = stand m (on (s % 2)) (on (s / 2 % 2)) (on (s / 4 % 2)) (on (s / 8 % 2)) (s / 65536 % 256) (s / 256 % 256)
 
@@ -81,15 +85,17 @@ seenBy bus s m = seenAs bus m s
 
 -- ---- an entry
 
--- by the number in front of its id or mask
+-- by the number in front of its id or mask: 0 a mute, 1 one, else many
 abbrev pub kindIn : ℕ → Kind
 kindIn zero = Mute
 kindIn (suc zero) = One
 kindIn (suc (suc n)) = Many
 
+-- the E5 counted
 abbrev pub countIn : ℕ → ℕ
 countIn zero = 1
 countIn (suc n) = suc n
 
+-- the caller's record of it
 unfoldable pub recordIn : ℕ → EntryRecord
 recordIn e = record { kind = kindIn (e / 0x100000000); digits = digitsOf (e % 0x100000000); count = countIn (e / 0x100000000) }

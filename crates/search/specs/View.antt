@@ -58,14 +58,17 @@ searchedOf r lent =
 abbrev pub answerOf : Core → answers.Searched
 answerOf c = record { outcome = c .outcome; count = c .count; probes = c .probes; spent = c .spent; segment = c .segment }
 
+-- what stands past the array
 abbrev pub noEntry : EntryRecord
 noEntry = record { kind = One; digits = []; count = 0 }
 
+-- its entry at a place
 abbrev pub entryAt : Core → ℕ → EntryRecord
 entryAt c i = getD (c .entries) i noEntry
 
 -- ---- the parts of a search by value
 
+-- a refused search: nothing found, nothing changed
 pub record Refuses (s : Segment) (o : Outcome) (r : Core) : Type 0 where
   pub outcome : r .outcome ≡ o
   pub count : r .count ≡ 0
@@ -87,6 +90,7 @@ unfoldable pub packedRun : Segment → ℕ → Run
 packedRun s allowance =
     walkR (packed idOf (held s) (s .meters)) allowance 8 0 (record { entries = []; probes = 0; spent = false; marks = packed (markOf (s .baud)) (held s) (s .meters) })
 
+-- a search that was made: what that walk found, and the meters put back; beside it what the types say of the meters
 pub record Walks (s : Segment) (allowance : ℕ) (r : Core) : Type 0 where
   pub outcome : r .outcome ≡ Made
   pub entries : take (r .count) (r .entries) ≡ map recordIn ((packedRun s allowance) .entries)

@@ -9,7 +9,7 @@ use lib.ListN.{length, replicate}
 use Rattle.frame.specs.Frame.{short, encode, sum, parse, parseShort, parseLong, parseBody}
 use Rattle.values.specs.Values.{makerCode, bcd, typeG, typeF, idBytes, nibbles, decimal, little}
 use Rattle.seconds.specs.Seconds.{whole, elapsedOf, notBelow0}
-use Rattle.meter.specs.Meter.{hears, put, alike, matches, partNow, readoutsNow, asked}
+use Rattle.meter.specs.Meter.{hears, put, alike, matches, asked}
 use Rattle.meter.specs.Response.{fixedData, head, clockF, heatFirst, heatSecond, electricity, water, userData, response, damaged, readout}
 use Rattle.meter.specs.Hear.{rates, target, nke, request, select, commanded, listens, hear}
 use Rattle.scenarios.specs.Tables.{media, faults}
@@ -32,7 +32,7 @@ use Rattle.table.specs.Table.{zeroSeconds, october, opened, walked, outc
 
 -- to unfold this is to unfold every definition that a search computes with
 everything : ℕ
-unfolding encode sum parse parseShort parseLong parseBody makerCode bcd typeG typeF idBytes nibbles decimal little whole elapsedOf sub round notBelow0 hears put alike matches partNow readoutsNow asked fixedData head clockF heatFirst heatSecond electricity water userData response damaged readout rates target nke request select commanded listens hear media faults readTexts readRecords goodId goodMaker check capacity ownBaud seedOf fresh openRecords openList blank joined heardBy handled steps settled afterOpening goodClock send ten walk wholeWalk maskDigits mask reading ask probe good idOf entryOf read
+unfolding encode sum parse parseShort parseLong parseBody makerCode bcd typeG typeF idBytes nibbles decimal little whole elapsedOf sub round notBelow0 hears put alike matches asked fixedData head clockF heatFirst heatSecond electricity water userData response damaged readout rates target nke request select commanded listens hear media faults readTexts readRecords goodId goodMaker check capacity ownBaud seedOf fresh openRecords openList blank joined heardBy handled steps settled afterOpening goodClock send ten walk wholeWalk maskDigits mask reading ask probe good idOf entryOf read
 everything = 0
 
 line-a : encode (mask []) ≡ 0x68 ∷ 0x0B ∷ 0x0B ∷ 0x68 ∷ 0x53 ∷ 0xFD ∷ 0x52 ∷ 0xFF ∷ 0xFF ∷ 0xFF ∷ 0xFF ∷ 0xFF ∷ 0xFF ∷ 0xFF ∷ 0xFF ∷ 0x9A ∷ 0x16 ∷ []
