@@ -1,0 +1,12 @@
+pub mod Machine
+pub mod Blocks
+pub mod Slices
+pub mod Arguments
+pub mod ByValue
+pub mod Opening
+pub mod Sending
+pub mod Receiving
+pub mod Searching
+pub mod Step
+pub mod Every
+pub mod Demand

@@ -1,0 +1,45 @@
+-- The arguments of the calls are values of their types: bytes, u32, f64, and slices that have room in memory.
+use mathlib.Core.Path.{_≡_}
+use mathlib.Core.Bool.{true}
+use mathlib.Core.List.{List, [], _∷_}
+use Prim.Native.Nat.{ℕ, _<_, _*_, _^_}
+use lib.Ieee.{Float, binary64, fits}
+use lib.ListN.{length}
+use Rattle.laws.specs.Words.{Every}
+use Rattle.meter.specs.declared.Clock.{Clock}
+use Rattle.search.specs.declared.EntryRecord.{EntryRecord}
+use Rattle.search.specs.Call.{Call, opening, sending, receiving, clearing, changing, searching}
+
+abbrev pub Byte : ℕ → Type 0
+Byte b = b < 256
+
+abbrev pub Word : ℕ → Type 0
+Word n = n < 2 ^ 32
+
+abbrev pub Double : Float → Type 0
+Double x = fits binary64 x ≡ true
+
+-- so many elements of so many bytes each: the count is below 2^64, the bytes are below 2^63
+abbrev pub Room : ℕ → ℕ → Type 0
+Room count each = (count < 2 ^ 64) × (count * each < 2 ^ 63)
+
+abbrev pub Bytes : List ℕ → Type 0
+Bytes bs = Every Byte bs × Room (length bs) 1
+
+abbrev pub FitClock : Clock → Type 0
+FitClock k = Double (k .now) × (Word (k .year) × (Word (k .month) × (Word (k .day) × (Word (k .hour) × Word (k .minute)))))
+
+-- eight digits, each a byte, and a count; a record takes 16 bytes
+abbrev pub FitRecord : EntryRecord → Type 0
+FitRecord e = (length (e .digits) ≡ 8) × (Every Byte (e .digits) × Word (e .count))
+
+abbrev pub Records : List EntryRecord → Type 0
+Records es = Every FitRecord es × Room (length es) 16
+
+abbrev pub FitCall : Call → Type 0
+FitCall (opening list bus practice origin) = Bytes list × (Word bus × Double origin)
+FitCall (sending piece k) = Bytes piece × FitClock k
+FitCall (receiving lent) = Bytes lent
+FitCall clearing = Unit {0}
+FitCall (changing baud) = Word baud
+FitCall (searching k allowance lent) = FitClock k × (Word allowance × Records lent)

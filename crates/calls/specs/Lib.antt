@@ -1,0 +1,5 @@
+pub mod Lent
+pub mod Fit
+pub mod Made
+pub mod Read
+pub mod Demand

@@ -1,0 +1,102 @@
+-- What may be written for a list, by what the opening and the search give.
+use mathlib.Core.Path.{_≡_, refl, sym, ap, ap₂, subst, _∙_}
+use mathlib.Core.Bool.{true, false}
+use mathlib.Core.List.{List, [], _++_}
+use Prim.Native.Nat.{ℕ, _≤_}
+use native.Mathlib.Omega.{arith}
+use lib.IntN.{pos}
+use lib.Ieee.{Float, fin}
+use lib.ListN.{length, take, drop, length-replicate}
+use lib.Seq.{take-at, length-take-le}
+use borrow.Author.Tests.{eq-eqb, ne-eqb, le-ltb}
+use Rattle.meter.specs.declared.Clock.{Clock}
+use Rattle.scenarios.specs.Opening.{Opened, opens, refuses, refusesRecord, OpeningGives, openList, capacity}
+use Rattle.scenarios.proofs.OpeningLaws.{OpensWell, openList-well}
+use Rattle.bus.specs.Plain.{Plain, blank}
+use Rattle.bus.specs.Calls.{afterOpening, goodClock}
+use Rattle.bus.specs.View.{plainOf, Opens}
+use Rattle.bus.specs.declared.Opened.{Opened as Opening}
+use Rattle.bus.specs.declared.Segment.{Segment}
+use Rattle.search.specs.declared.EntryRecord.{EntryRecord}
+use Rattle.search.specs.declared.Core.{Core}
+use Rattle.search.specs.View.{coreGives, Finds}
+use Rattle.search.specs.Walk.{Searched, searchCall}
+use Rattle.listing_text.specs.Text.{reportOf, refusalOf, Prints}
+use Rattle.listing_text.specs.Listing.{listingClock, lentRecords, listIn, listedSegment, listedSearch, listingText, Lists}
+
+pub lent-count : length lentRecords ≡ capacity
+unfolding lentRecords
+lent-count = length-replicate capacity _
+
+text-refused : (n : ℕ) (r : Searched) → (n ≡ 0 → ⊥) → listingText n r ≡ refusalOf n
+unfolding listingText
+text-refused n r h = rw (ne-eqb n 0 h)
+
+-- es begins with the records found
+text-report : (n : ℕ) (r : Searched) (es rest : List EntryRecord) → n ≡ 0 → r .lent ≡ take (r .count) es ++ rest → r .count ≤ length es
+    → listingText n r ≡ reportOf (take (r .count) es) (r .probes)
+unfolding listingText
+text-report n r es rest z e h =
+    rw (eq-eqb n 0 z) (ap (λ (l : List EntryRecord). reportOf l (r .probes)) (ap (take (r .count)) e ∙ take-at (take (r .count) es) rest (r .count) (length-take-le (r .count) es h)))
+
+pub opens-as : {l m : List ℕ} {s t : Plain} {o : Float} {r : Opening} → l ≡ m → s ≡ t → Opens l 2400 false o s r → Opens m 2400 false o t r
+opens-as {l} {m} {s} {t} {o} {r} e f p = subst (λ (y : Plain). Opens m 2400 false o y r) f (subst (λ (x : List ℕ). Opens x 2400 false o s r) e p)
+
+-- what the opening gives
+abbrev pub OpenedAs : List ℕ → ℕ → ℕ → Type 0
+OpenedAs input n i = OpeningGives (openList (listIn input) 2400 false) n i
+
+module _ {input lent after : List ℕ} {r : ℕ} where
+  pub lists-refusal : (m i n : ℕ) → OpenedAs input m i → n ≡ m → (n ≡ 0 → ⊥) → Prints lent (refusalOf n) r after → Lists input lent r after
+  lists-refusal m i n o e h p =
+      record {
+        text = refusalOf n;
+        gives =
+            record {
+              number = n;
+              index = i;
+              opening = rw e o;
+              is = sym (text-refused n (listedSearch (listIn input)) h);
+            };
+        prints = p;
+      }
+
+  -- f is a search of the segment q
+  pub lists-report : (m i n : ℕ) (q : Segment) (k : Clock) (f : Core) → OpenedAs input m i → n ≡ m → n ≡ 0
+      → plainOf q ≡ listedSegment (listIn input) → k ≡ listingClock → Finds q k 10000 64 f → length (f .entries) ≡ 64
+      → Prints lent (reportOf (take (f .count) (f .entries)) (f .probes)) r after → Lists input lent r after
+  unfolding coreGives listedSearch capacity
+  lists-report m i n q k f o e z a b c d p =
+      let g = c .gives lentRecords lent-count ∙ ap₂ (λ (x : Clock) (y : Plain). searchCall x 10000 lentRecords y) b a in
+      record {
+        text = reportOf (take (f .count) (f .entries)) (f .probes);
+        gives =
+            record {
+              number = n;
+              index = i;
+              opening = rw e o;
+              is = sym (text-report n (coreGives f lentRecords) (f .entries) (drop (f .count) lentRecords) z refl (omega (arith, c .fits))) ∙ ap (listingText n) g;
+            };
+        prints = p;
+      }
+
+-- a list that opens has no more meters than records are lent: the search is not refused
+few-accepted : (k : Clock) (a : ℕ) (lent : List EntryRecord) (s : Plain) → goodClock k ≡ true → s .input ≡ [] → s .queue ≡ [] → length (s .meters) ≤ length lent
+    → (searchCall k a lent s) .number ≡ 0
+unfolding searchCall
+few-accepted k a lent s g p q h = rw (g, p, q, le-ltb (length lent) (length (s .meters)) h)
+
+opened-accepted : (o : Opened) → OpensWell o
+    → (searchCall listingClock 10000 lentRecords (elim o [
+      | opens ms ↦ record { baud = 2400; origin = fin false 0 (pos 0); input = []; queue = []; meters = ms }
+      | refuses n ↦ blank
+      | refusesRecord rs ↦ blank
+    ])) .number ≡ 0
+unfolding listingClock goodClock blank
+opened-accepted (opens ms) h = few-accepted listingClock 10000 lentRecords _ refl refl refl (rw lent-count (h .0))
+opened-accepted (refuses n) h = few-accepted listingClock 10000 lentRecords _ refl refl refl (omega arith)
+opened-accepted (refusesRecord rs) h = few-accepted listingClock 10000 lentRecords _ refl refl refl (omega arith)
+
+pub search-accepted : (list : List ℕ) → (listedSearch list) .number ≡ 0
+unfolding listedSearch listedSegment afterOpening
+search-accepted list = opened-accepted (openList list 2400 false) (openList-well list 2400 false)

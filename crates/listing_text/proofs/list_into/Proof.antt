@@ -1,0 +1,59 @@
+use mathlib.Core.Path.{_≡_}
+use lib.ListN.{length}
+use borrow.Author.Needs.{needs}
+use Rattle.laws.proofs.Sweep.{length-mapped}
+use Rattle.listing_text.specs.Listing.{listedSegment}
+use Rattle.listing_text.proofs.ListingLaws.{lists-refusal, lists-report}
+use Rattle.listing_text.proofs.list_into.Statement.{statement}
+use Rattle.listing_text.proofs.list_into.Tie as tie
+
+open-list-requires : tie.Need-open-list-requires
+open-list-requires c κs = search needs
+
+refusal-number-requires : tie.Need-refusal-number-requires
+refusal-number-requires c κs = search needs
+
+cast-refusal : tie.Need-cast-refusal
+cast-refusal c = search needs
+
+refusal-requires : tie.Need-refusal-requires
+refusal-requires c κs = search needs
+
+returns : tie.Need-returns
+returns c =
+    let n = c .before .before .refusal-number in
+    lists-refusal _ _ (n .result) (c .before .before .before .open-list .ensures .answer) (n .ensures) (c .before .if1 .taken) (c .refusal .ensures)
+
+clock-requires : tie.Need-clock-requires
+clock-requires c κs = search needs
+
+search-core-requires : tie.Need-search-core-requires
+search-core-requires c κs = search needs
+
+report-requires : tie.Need-report-requires
+report-requires c κs = search needs
+
+returns-2 : tie.Need-returns-2
+unfolding listedSegment
+returns-2 c =
+    let o = c .before .before .before .before .before .before .before .open-list in
+    let n = c .before .before .before .before .before .before .refusal-number in
+    let k = c .before .before .before .clock in
+    let f = c .before .before .search-core in
+    let d : length (f .result .entries) ≡ 64 = search (needs, length-mapped) in
+    lists-report _ _ (n .result) (o .result .segment) (k .result) (f .result) (o .ensures .answer) (n .ensures) (c .before .before .before .before .before .if1 .left)
+    (o .ensures .segment) (k .ensures) (f .ensures) d (c .report .ensures)
+
+pub list-into-spec : {M : Type 1} → statement M
+list-into-spec =
+    tie.close
+    (tie.spec
+    open-list-requires
+    refusal-number-requires
+    cast-refusal
+    refusal-requires
+    returns
+    clock-requires
+    search-core-requires
+    report-requires
+    returns-2)

@@ -1,0 +1,43 @@
+use mathlib.Core.Path.{_≡_}
+use native.Mathlib.Omega.{arith}
+use lib.ListN.{length}
+use borrow.Author.Needs.{needs}
+use Rattle.listing_text.specs.Text.{refusalOf}
+use Rattle.listing_text.proofs.TextLaws.{wrote-then, wrote-prints}
+use Rattle.listing_text.proofs.refusal.Statement.{statement}
+use Rattle.listing_text.proofs.refusal.Tie as tie
+
+slice-aggregate-put : tie.Need-slice-aggregate-put
+slice-aggregate-put c = search needs
+
+put-requires : tie.Need-put-requires
+put-requires c κs = search needs
+
+put-number-requires : tie.Need-put-number-requires
+put-number-requires c κs = search needs
+
+slice-aggregate-put-2 : tie.Need-slice-aggregate-put-2
+slice-aggregate-put-2 c = search needs
+
+put-requires-2 : tie.Need-put-requires-2
+put-requires-2 c κs = search needs
+
+returns : tie.Need-returns
+unfolding refusalOf
+returns c =
+    let p = c .before .before .before .before .before .put .ensures in
+    let q = c .before .before .before .put-number .ensures in
+    let r = c .put2 .ensures in
+    let h : length (c .before .before .before .before .before .before .before .before .args .lent) ≡ 2048 = search needs in
+    wrote-prints (wrote-then (wrote-then p (q .0) (omega arith)) r (omega arith))
+
+pub refusal-spec : {M : Type 1} → statement M
+refusal-spec =
+    tie.close
+    (tie.spec
+    slice-aggregate-put
+    put-requires
+    put-number-requires
+    slice-aggregate-put-2
+    put-requires-2
+    returns)

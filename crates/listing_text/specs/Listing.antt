@@ -1,0 +1,55 @@
+-- 01, "The listing program": what it writes for what it reads.
+use mathlib.Core.Path.{_≡_}
+use mathlib.Core.Bool.{false}
+use mathlib.Core.List.{List}
+use Prim.Native.Nat.{ℕ}
+use lib.IntN.{pos}
+use lib.Ieee.{fin}
+use lib.Dec.{eqb}
+use lib.ListN.{take, replicate}
+use Rattle.laws.specs.Words.{if_then_else_}
+use Rattle.meter.specs.declared.Clock.{Clock}
+use Rattle.scenarios.specs.Opening.{OpeningGives, openList, capacity}
+use Rattle.bus.specs.Plain.{Plain, blank}
+use Rattle.bus.specs.Calls.{afterOpening}
+use Rattle.search.specs.declared.EntryRecord.{EntryRecord}
+use Rattle.search.specs.declared.Kind.the-variants.{One}
+use Rattle.search.specs.Walk.{Searched, searchCall}
+use Rattle.listing_text.specs.Text.{reportOf, refusalOf, Prints}
+
+-- "opens at 2400 without the flag, origin .. 0": the first opening of a segment
+unfoldable pub listedSegment : List ℕ → Plain
+listedSegment list = afterOpening list 2400 false (fin false 0 (pos 0)) blank
+
+-- "now 0, date 2026-10-01 00:00"
+unfoldable pub listingClock : Clock
+listingClock = record { now = fin false 0 (pos 0); year = 2026; month = 10; day = 1; hour = 0; minute = 0 }
+
+-- The records lent to the search, one for each meter that a list can have. What stands in them is not written.
+unfoldable pub lentRecords : List EntryRecord
+lentRecords = replicate capacity (record { kind = One; digits = replicate 8 0; count = 0 })
+
+-- "allowance 10,000"
+unfoldable pub listedSearch : List ℕ → Searched
+listedSearch list = searchCall listingClock 10000 lentRecords (listedSegment list)
+
+-- the text by the opening's number: "A refused list prints `refused` and the number."
+unfoldable pub listingText : ℕ → Searched → List ℕ
+listingText number r = if eqb number 0 then reportOf (take (r .count) (r .lent)) (r .probes) else refusalOf number
+
+-- "Input past 65,536 bytes is not read."
+unfoldable pub listIn : List ℕ → List ℕ
+listIn input = take 65536 input
+
+-- Where several records of a list fail, the number is that of one of them, and 01 leaves free which.
+pub record ListingGives (input text : List ℕ) : Type 0 where
+  pub number : ℕ
+  pub index : ℕ
+  pub opening : OpeningGives (openList (listIn input) 2400 false) number index
+  pub is : text ≡ listingText number (listedSearch (listIn input))
+
+-- the text in lent bytes, of which those past it stay; r is its length
+pub record Lists (input lent : List ℕ) (r : ℕ) (after : List ℕ) : Type 0 where
+  pub text : List ℕ
+  pub gives : ListingGives input text
+  pub prints : Prints lent text r after
