@@ -1,0 +1,57 @@
+// Numbers and bytes as text, on standard output.
+use libc::STDOUT_FILENO;
+
+pub fn text(s: &[u8]) {
+    io::write_all(STDOUT_FILENO, s);
+}
+
+pub fn blank() {
+    text(b" ");
+}
+
+pub fn line() {
+    text(b"\n");
+}
+
+pub fn decimal(n: u64) {
+    io::print_decimal(STDOUT_FILENO, n);
+}
+
+// A decimal number behind a blank.
+pub fn next(n: u64) {
+    blank();
+    decimal(n);
+}
+
+pub fn hex(n: u64, width: usize) {
+    io::print_hex(STDOUT_FILENO, n, width);
+}
+
+pub fn wide(x: usize) -> u64 {
+    x as u64
+}
+
+pub fn wide32(x: u32) -> u64 {
+    x as u64
+}
+
+pub fn wide8(x: u8) -> u64 {
+    x as u64
+}
+
+pub fn wide16(x: u16) -> u64 {
+    x as u64
+}
+
+pub fn bit(b: bool) -> u64 {
+    if b { 1 } else { 0 }
+}
+
+// Each byte in so many hexadecimal digits.
+pub fn bytes(s: &[u8], width: usize) {
+    let mut i: usize = 0;
+    while i < s.len() {
+        hex(wide8(s[i]), width);
+        i += 1;
+    }
+}
