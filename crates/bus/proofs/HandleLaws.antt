@@ -19,7 +19,7 @@ use Rattle.bus.specs.Plain.{Plain, joined}
 use Rattle.bus.specs.Steps.{replies, toAll, heardBy, handled, withQueue}
 use Rattle.bus.specs.View.{plainOf}
 use Rattle.bus.specs.Joining.{lengthKept, bytesKept}
-use Rattle.bus.specs.Sending.{Gives}
+use Rattle.bus.specs.Gives.{Gives}
 use Rattle.bus.proofs.JoiningLaws.{joined-is, length-kept}
 use Rattle.bus.proofs.SweepLaws.{Swept}
 

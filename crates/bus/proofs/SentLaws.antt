@@ -14,7 +14,7 @@ use Rattle.bus.specs.Plain.{Plain}
 use Rattle.bus.specs.Steps.{withInput, settled}
 use Rattle.bus.specs.Calls.{accepted, refused, fitsQueue, goodClock, send}
 use Rattle.bus.specs.View.{plainOf}
-use Rattle.bus.specs.Sending.{Gives}
+use Rattle.bus.specs.Gives.{Gives}
 
 module _ (piece : List ℕ) (k : Clock) (s : Plain) where
   pub send-long : 1024 < length piece → refused 13 s ≡ send piece k s

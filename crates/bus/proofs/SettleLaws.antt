@@ -22,7 +22,7 @@ use Rattle.bus.specs.declared.settle.Handled.{Handled}
 use Rattle.bus.specs.Plain.{Plain, joined}
 use Rattle.bus.specs.Steps.{replies, toAll, heardBy, handled, withInput, settled}
 use Rattle.bus.specs.View.{plainOf}
-use Rattle.bus.specs.Sending.{Gives}
+use Rattle.bus.specs.Gives.{Gives}
 use Rattle.bus.proofs.SendLaws.{used-some, steps-keeps, settled-complete, settled-incomplete, settled-invalid}
 use Rattle.bus.proofs.HandleLaws.{queue-fits}
 

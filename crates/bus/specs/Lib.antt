@@ -1,6 +1,6 @@
-pub mod Sending
-pub mod Joining
 pub mod Calls
+pub mod Gives
+pub mod Joining
 pub mod Plain
 pub mod Steps
 pub mod View

@@ -6,7 +6,7 @@ ghost use lib.Dec.{eqb};
 ghost use Rattle.frame.specs.View.{telegramOf};
 ghost use Rattle.bus.specs.Steps.{toAll, handled, settled, withInput};
 ghost use Rattle.bus.specs.View.{plainOf};
-ghost use Rattle.bus.specs.Sending.{Gives};
+ghost use Rattle.bus.specs.Gives.{Gives};
 use crate::METERS;
 use crate::Segment;
 use crate::join;

@@ -25,29 +25,32 @@ use Rattle.calls.specs.Fit.{Byte, FitCall}
 use Rattle.calls.specs.Made.{Runs, Made}
 use Rattle.calls.specs.Read.{RecordsIn, Answered}
 
--- The machine makes a new segment, then the calls, then one more search; from any memory that a program starts in: its input's bytes in block 0, its output's in block 1.
--- Nothing is presupposed of the values that it returns on the way.
+-- The machine makes a new segment, then the calls, then one more search. Nothing is presupposed of the values that it returns on the way.
+-- It begins in any memory that a program starts in: the input's bytes in block 0, the output's in block 1.
 pub record Run (input output : List ℕ) (calls : List Call) (last : Call) : Type 0 where
+  -- `Segment::new` returned this
   pub fresh : Val
   pub after-new : Memory
   pub began : ends new-routine [] (startMem input output) fresh after-new
+  -- the calls left this segment
   pub segment : Val
   pub after-calls : Memory
   pub made : Made calls fresh after-new segment after-calls
+  -- the search returned this
   pub answer : Val
   pub at-end : Memory
   pub searched : Runs last segment after-calls answer at-end
 
--- A search that returned v, and left the memory σ with the lent records in block b, gave what 01 says on the plain segment s
+-- A search returned v and left the memory σ, with the lent records in block b: that is what 01 says on the plain segment s
 pub record Found (k : Clock) (allowance : ℕ) (lent : List EntryRecord) (s : Plain) (v : Val) (b : ℕ) (σ : Memory) : Type 0 where
   -- the program's answer, and the records that the machine loads from the lent block
   pub answer : Searched
   pub records : List EntryRecord
   pub returned : v ≡ searched-value answer
   pub loaded : RecordsIn σ b records
-  -- refused or not, number, entries, probes, spent, lent records and segment are those of the search call over s
+  -- refused or not: its number, count, probes, spent, lent records and segment are those of the search call over s
   pub given : searchedOf answer records ≡ searchCall k allowance lent s
-  -- not refused: those of the walk over s, the price, spent exactly when, the entries, their order, each meter in exactly one, the bound
+  -- not refused: they are those of the walk over s; its price, when it is spent, its entries, their order, each meter in exactly one of them, and the bound are 01's
   pub demanded : (searchCall k allowance lent s) .number ≡ 0 → Demanded allowance lent s (wholeWalk k allowance s) (searchedOf answer records)
 
 -- "Demand 3's lists begin with an opening, accepted or not". The plain segment s is fed the calls' arguments alone; `blank` is the segment that a refused first opening gives.

@@ -1,7 +1,7 @@
 -- The arguments of the calls are values of their types: bytes, u32, f64, and slices that have room in memory.
 use mathlib.Core.Path.{_≡_}
 use mathlib.Core.Bool.{true}
-use mathlib.Core.List.{List, [], _∷_}
+use mathlib.Core.List.{List}
 use Prim.Native.Nat.{ℕ, _<_, _*_, _^_}
 use lib.Ieee.{Float, binary64, fits}
 use lib.ListN.{length}

@@ -31,7 +31,7 @@ withBytes σ bs = holding (tyInt w8) (vint w8) σ bs
 abbrev pub withRecords : Memory → List EntryRecord → Memory
 withRecords σ es = holding record-ty record-value σ es
 
--- so many elements, as a slice: from place 0 of the block that σ does not have yet
+-- a slice of n elements, from place 0 of the block that comes next after those of σ
 abbrev pub lentAt : Memory → ℕ → Val
 lentAt σ n = sliceVal (length σ, 0) n
 
@@ -53,7 +53,7 @@ part i (vint w n) = vunit
 part i (vfloat f x) = vunit
 part i (vptr b o) = vunit
 
--- the segment in what a call returned
+-- the segment in what a call returned: the field at its place there
 abbrev pub segmentIn : Call → Val → Val
 segmentIn (opening list bus practice origin) r = part 1 r
 segmentIn (sending piece k) r = part 1 r
@@ -62,7 +62,7 @@ segmentIn clearing r = r
 segmentIn (changing baud) r = part 1 r
 segmentIn (searching k allowance lent) r = part 4 r
 
--- The calls, from the segment s and the memory σ to the segment t and the memory σ′: each on the segment and in the memory that the one before left, whatever it returned
+-- The calls, from the segment s and the memory σ to the segment t and the memory σ′: each on the segment and in the memory that the one before left, whatever these are
 pub data Made : List Call → Val → Memory → Val → Memory → Type 0 where
   over : {s : Val} {σ : Memory} → Made [] s σ s σ
   next : {c : Call} {cs : List Call} {s t : Val} {σ σ′ : Memory} (r : Val) (σ₁ : Memory) → Runs c s σ r σ₁ → Made cs (segmentIn c r) σ₁ t σ′ → Made (c ∷ cs) s σ t σ′

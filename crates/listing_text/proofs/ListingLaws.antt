@@ -63,7 +63,7 @@ module _ {input lent after : List ℕ} {r : ℕ} where
 
   -- f is a search of the segment q
   pub lists-report : (m i n : ℕ) (q : Segment) (k : Clock) (f : Core) → OpenedAs input m i → n ≡ m → n ≡ 0
-      → plainOf q ≡ listedSegment (listIn input) → k ≡ listingClock → Finds q k 10000 64 f → length (f .entries) ≡ 64
+      → plainOf q ≡ listedSegment (listIn input) → k ≡ listingClock → Finds q k 10000 capacity f → length (f .entries) ≡ capacity
       → Prints lent (reportOf (take (f .count) (f .entries)) (f .probes)) r after → Lists input lent r after
   unfolding coreGives listedSearch capacity
   lists-report m i n q k f o e z a b c d p =

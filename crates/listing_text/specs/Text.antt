@@ -2,10 +2,11 @@
 -- Texts are lists of ASCII codes.
 use mathlib.Core.Path.{_≡_}
 use mathlib.Core.List.{List, [], _∷_, _++_, map}
-use Prim.Native.Nat.{ℕ, zero, suc, _+_, _/_, _%_}
+use Prim.Native.Nat.{ℕ, zero, suc, _+_, _*_, _/_, _%_}
 use lib.Dec.{eqb, ltb}
 use lib.ListN.{length, take, drop}
 use Rattle.laws.specs.Words.{if_then_else_}
+use Rattle.scenarios.specs.Opening.{capacity}
 use Rattle.search.specs.declared.EntryRecord.{EntryRecord}
 use Rattle.search.specs.declared.Kind.{Kind}
 use Rattle.search.specs.declared.Kind.the-variants.{One, Mute, Many}
@@ -81,6 +82,10 @@ unfoldable pub refusalOf : ℕ → List ℕ
 refusalOf n = refusedWord ++ number n ++ newline
 
 -- ---- a text in lent bytes
+
+-- Line 1 has at most 38 bytes, an entry's line at most 25, and there are no more entries than meters.
+abbrev pub room : ℕ
+room = 38 + 25 * capacity
 
 -- a text stands at a place of the lent bytes, the others stay; r is the place behind it
 pub record Wrote (lent : List ℕ) (at : ℕ) (text : List ℕ) (r : ℕ) (after : List ℕ) : Type 0 where

@@ -3,7 +3,8 @@ ghost use mathlib.Core.Path.{_≡_};
 ghost use Prim.Native.Nat.{ℕ, _+_, _≤_, _<_, min};
 ghost use lib.ListN.{length, take, drop};
 ghost use Rattle.listing_text.specs.Text;
-ghost use Rattle.listing_text.specs.Text.{number, eightDigits, lines, firstLine, reportOf, refusalOf, Wrote, Prints};
+ghost use Rattle.listing_text.specs.Text.{number, eightDigits, lines, firstLine, reportOf, refusalOf, room, Wrote, Prints};
+ghost use Rattle.scenarios.specs.Opening.{capacity};
 ghost use Rattle.listing_text.specs.Listing.{listingClock, listIn, Lists};
 ghost use Rattle.bus.specs.Plain.{blank};
 ghost use Rattle.bus.specs.View.{Opens};
@@ -18,11 +19,11 @@ use search::EntryRecord;
 use search::Kind;
 
 // Line 1 has at most 38 bytes, an entry's line at most 25.
-pub const TEXT: usize = 2048;
+pub const TEXT: usize = 38 + 25 * METERS;
 
 // Some bytes from a place on; gives the place behind them.
 fn put(out: &mut [u8; TEXT], at: usize, bytes: &[u8]) -> usize
-    requires { ⌜ (at + length (now bytes) ≤ 2048) × (length (now out) ≡ 2048) ⌝ }
+    requires { ⌜ (at + length (now bytes) ≤ room) × (length (now out) ≡ room) ⌝ }
     ensures { λ r. ⌜ Wrote (now (out .entry)) at (now (bytes .entry)) r (now (out .exit)) ⌝ }
 {
     let mut j: usize = 0;
@@ -59,7 +60,7 @@ fn spell(n: u32) -> Spelled
 }
 
 fn put_number(out: &mut [u8; TEXT], at: usize, n: u32) -> usize
-    requires { ⌜ (at + 10 ≤ 2048) × (length (now out) ≡ 2048) ⌝ }
+    requires { ⌜ (at + 10 ≤ room) × (length (now out) ≡ room) ⌝ }
     ensures { λ r. ⌜ Wrote (now (out .entry)) at (number n) r (now (out .exit)) × (r ≤ at + 10) ⌝ }
 {
     let s = spell(n);
@@ -76,7 +77,7 @@ fn digit(d: u8) -> u8
 }
 
 fn put_digits(out: &mut [u8; TEXT], at: usize, digits: [u8; 8]) -> usize
-    requires { ⌜ (at + 8 ≤ 2048) × (length (now out) ≡ 2048) ⌝ }
+    requires { ⌜ (at + 8 ≤ room) × (length (now out) ≡ room) ⌝ }
     ensures { λ r. ⌜ Wrote (now (out .entry)) at (eightDigits digits) r (now (out .exit)) × (r ≡ at + 8) ⌝ }
 {
     let mut j: usize = 0;
@@ -89,7 +90,7 @@ fn put_digits(out: &mut [u8; TEXT], at: usize, digits: [u8; 8]) -> usize
 }
 
 fn put_word(out: &mut [u8; TEXT], at: usize, kind: Kind) -> usize
-    requires { ⌜ (at + 5 ≤ 2048) × (length (now out) ≡ 2048) ⌝ }
+    requires { ⌜ (at + 5 ≤ room) × (length (now out) ≡ room) ⌝ }
     ensures { λ r. ⌜ Wrote (now (out .entry)) at (Text.word kind) r (now (out .exit)) × (r ≤ at + 5) ⌝ }
 {
     match kind {
@@ -100,7 +101,7 @@ fn put_word(out: &mut [u8; TEXT], at: usize, kind: Kind) -> usize
 }
 
 fn put_count(out: &mut [u8; TEXT], at: usize, kind: Kind, count: u32) -> usize
-    requires { ⌜ (at + 11 ≤ 2048) × (length (now out) ≡ 2048) ⌝ }
+    requires { ⌜ (at + 11 ≤ room) × (length (now out) ≡ room) ⌝ }
     ensures { λ r. ⌜ Wrote (now (out .entry)) at (Text.counted kind count) r (now (out .exit)) × (r ≤ at + 11) ⌝ }
 {
     match kind {
@@ -114,7 +115,7 @@ fn put_count(out: &mut [u8; TEXT], at: usize, kind: Kind, count: u32) -> usize
 }
 
 fn put_line(out: &mut [u8; TEXT], at: usize, e: EntryRecord) -> usize
-    requires { ⌜ (at + 25 ≤ 2048) × (length (now out) ≡ 2048) ⌝ }
+    requires { ⌜ (at + 25 ≤ room) × (length (now out) ≡ room) ⌝ }
     ensures { λ r. ⌜ Wrote (now (out .entry)) at (Text.line e) r (now (out .exit)) × (r ≤ at + 25) ⌝ }
 {
     let kind = e.kind;
@@ -126,7 +127,7 @@ fn put_line(out: &mut [u8; TEXT], at: usize, e: EntryRecord) -> usize
 }
 
 fn put_lines(out: &mut [u8; TEXT], at: usize, entries: [EntryRecord; METERS], count: usize) -> usize
-    requires { ⌜ (at ≤ 38) × (count ≤ 64) × (length (now out) ≡ 2048) ⌝ }
+    requires { ⌜ (at ≤ 38) × (count ≤ capacity) × (length (now out) ≡ room) ⌝ }
     ensures { λ r. ⌜ Wrote (now (out .entry)) at (lines (take count entries)) r (now (out .exit)) ⌝ }
 {
     let mut end = at;
@@ -140,7 +141,7 @@ fn put_lines(out: &mut [u8; TEXT], at: usize, entries: [EntryRecord; METERS], co
 }
 
 fn put_first(out: &mut [u8; TEXT], entries: u32, probes: u32) -> usize
-    requires { ⌜ length (now out) ≡ 2048 ⌝ }
+    requires { ⌜ length (now out) ≡ room ⌝ }
     ensures { λ r. ⌜ Wrote (now (out .entry)) 0 (firstLine entries probes) r (now (out .exit)) × (r ≤ 38) ⌝ }
 {
     let a = put_number(out, 0, entries);

@@ -2,6 +2,7 @@ use mathlib.Core.Path.{_≡_}
 use lib.ListN.{length}
 use borrow.Author.Needs.{needs}
 use Rattle.laws.proofs.Sweep.{length-mapped}
+use Rattle.scenarios.specs.Opening.{capacity}
 use Rattle.listing_text.specs.Listing.{listedSegment}
 use Rattle.listing_text.proofs.ListingLaws.{lists-refusal, lists-report}
 use Rattle.listing_text.proofs.list_into.Statement.{statement}
@@ -34,13 +35,13 @@ report-requires : tie.Need-report-requires
 report-requires c κs = search needs
 
 returns-2 : tie.Need-returns-2
-unfolding listedSegment
+unfolding capacity listedSegment
 returns-2 c =
     let o = c .before .before .before .before .before .before .before .open-list in
     let n = c .before .before .before .before .before .before .refusal-number in
     let k = c .before .before .before .clock in
     let f = c .before .before .search-core in
-    let d : length (f .result .entries) ≡ 64 = search (needs, length-mapped) in
+    let d : length (f .result .entries) ≡ capacity = search (needs, length-mapped) in
     lists-report _ _ (n .result) (o .result .segment) (k .result) (f .result) (o .ensures .answer) (n .ensures) (c .before .before .before .before .before .if1 .left)
     (o .ensures .segment) (k .ensures) (f .ensures) d (c .report .ensures)
 

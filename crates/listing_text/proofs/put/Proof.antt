@@ -3,12 +3,14 @@ use Prim.Native.Nat.{_+_, _≤_, _-_}
 use native.Mathlib.Omega.{arith}
 use lib.ListN.{length, length-set}
 use Rattle.laws.proofs.Copy.{Copied, copied-none, copied-more}
+use Rattle.scenarios.specs.Opening.{capacity}
+use Rattle.listing_text.specs.Text.{room}
 use Rattle.listing_text.proofs.TextLaws.{copied-wrote}
 use Rattle.listing_text.proofs.put.Statement.{statement}
 use Rattle.listing_text.proofs.put.Tie as tie
 
 abbrev Inv-loop : tie.InvT-loop
-Inv-loop out₀ at bytes j₀ out j = (j ≤ length bytes) × (at + length bytes ≤ 2048) × (length out₀ ≡ 2048) × (length out ≡ 2048) × Copied out₀ at bytes j out
+Inv-loop out₀ at bytes j₀ out j = (j ≤ length bytes) × (at + length bytes ≤ room) × (length out₀ ≡ room) × (length out ≡ room) × Copied out₀ at bytes j out
 
 abbrev μ-loop : tie.MeasureT-loop
 μ-loop out₀ at bytes j₀ out j = length bytes - j
@@ -20,9 +22,11 @@ shared-slice-read-out : tie.Need-shared-slice-read-out Inv-loop μ-loop
 shared-slice-read-out c = omega arith
 
 add-out : tie.Need-add-out Inv-loop μ-loop
+unfolding capacity
 add-out c = omega arith
 
 element-write-out : tie.Need-element-write-out Inv-loop μ-loop
+unfolding capacity
 element-write-out c = omega arith
 
 add-j : tie.Need-add-j Inv-loop μ-loop
@@ -37,6 +41,7 @@ loop-again c =
     (omega arith, inv .1, inv .2, simp length-set (inv .3), copied-more _ (inv .4) refl (omega arith) (omega arith) refl)
 
 add-result : tie.Need-add-result Inv-loop μ-loop
+unfolding capacity
 add-result c = omega arith
 
 returns : tie.Need-returns Inv-loop μ-loop

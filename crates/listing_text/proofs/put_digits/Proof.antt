@@ -4,13 +4,14 @@ use native.Mathlib.Omega.{arith}
 use lib.ListN.{length, length-set, length-map, List·getD-map}
 use borrow.Author.Needs.{needs}
 use Rattle.laws.proofs.Copy.{Copied, copied-none, copied-more}
-use Rattle.listing_text.specs.Text.{digit, eightDigits}
+use Rattle.scenarios.specs.Opening.{capacity}
+use Rattle.listing_text.specs.Text.{room, digit, eightDigits}
 use Rattle.listing_text.proofs.TextLaws.{copied-wrote}
 use Rattle.listing_text.proofs.put_digits.Statement.{statement}
 use Rattle.listing_text.proofs.put_digits.Tie as tie
 
 abbrev Inv-loop : tie.InvT-loop
-Inv-loop out₀ at digits j₀ out j = (j ≤ 8) × (at + 8 ≤ 2048) × (length digits ≡ 8) × (length out₀ ≡ 2048) × (length out ≡ 2048) × Copied out₀ at (eightDigits digits) j out
+Inv-loop out₀ at digits j₀ out j = (j ≤ 8) × (at + 8 ≤ room) × (length digits ≡ 8) × (length out₀ ≡ room) × (length out ≡ room) × Copied out₀ at (eightDigits digits) j out
 
 abbrev μ-loop : tie.MeasureT-loop
 μ-loop out₀ at digits j₀ out j = 8 - j
@@ -25,9 +26,11 @@ digit-requires : tie.Need-digit-requires Inv-loop μ-loop
 digit-requires c κs = search needs
 
 add-out : tie.Need-add-out Inv-loop μ-loop
+unfolding capacity
 add-out c = omega arith
 
 element-write-out : tie.Need-element-write-out Inv-loop μ-loop
+unfolding capacity
 element-write-out c = omega arith
 
 add-j : tie.Need-add-j Inv-loop μ-loop
@@ -45,6 +48,7 @@ loop-again c =
     (omega arith, inv .1, inv .2, inv .3, simp length-set (inv .4), copied-more (digit 0) (inv .5) refl (omega arith) (omega arith) (c .digit .ensures ∙ sym (List·getD-map digit ds (at .j) 0)))
 
 add-result : tie.Need-add-result Inv-loop μ-loop
+unfolding capacity
 add-result c = omega arith
 
 returns : tie.Need-returns Inv-loop μ-loop

@@ -3,23 +3,28 @@ use Prim.Native.Nat.{_-_, _≤_}
 use native.Mathlib.Omega.{arith}
 use lib.ListN.{length}
 use borrow.Author.Needs.{needs}
+use Rattle.scenarios.specs.Opening.{capacity}
+use Rattle.listing_text.specs.Text.{room}
 use Rattle.listing_text.proofs.TextLaws.{Lined, lined-none, lined-more}
 use Rattle.listing_text.proofs.put_lines.Statement.{statement}
 use Rattle.listing_text.proofs.put_lines.Tie as tie
 
 abbrev Inv-loop : tie.InvT-loop
-Inv-loop out₀ at count entries end₀ i₀ out end i = (i ≤ count) × (count ≤ 64) × (at ≤ 38) × (length entries ≡ 64) × (length out₀ ≡ 2048) × Lined out₀ at entries i end out
+Inv-loop out₀ at count entries end₀ i₀ out end i = (i ≤ count) × (count ≤ capacity) × (at ≤ 38) × (length entries ≡ capacity) × (length out₀ ≡ room) × Lined out₀ at entries i end out
 
 abbrev μ-loop : tie.MeasureT-loop
 μ-loop out₀ at count entries end₀ i₀ out end i = count - i
 
 loop-holds : tie.Need-loop-holds Inv-loop μ-loop
+unfolding capacity
 loop-holds c = (omega arith, c .pre .1, c .pre .0, search needs, c .pre .2, lined-none)
 
 mul-e : tie.Need-mul-e Inv-loop μ-loop
+unfolding capacity
 mul-e c = omega arith
 
 array-copy-out-e : tie.Need-array-copy-out-e Inv-loop μ-loop
+unfolding capacity
 array-copy-out-e c = omega arith
 
 put-line-requires : tie.Need-put-line-requires Inv-loop μ-loop

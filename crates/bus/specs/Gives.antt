@@ -1,4 +1,4 @@
--- What send's parts do, in the terms of the definitions.
+-- What handling a telegram, or several, comes to: the contract of the parts of send.
 use mathlib.Core.Path.{_≡_}
 use mathlib.Core.Bool.{false}
 use lib.Dec.{ltb}
