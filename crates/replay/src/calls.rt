@@ -23,7 +23,7 @@ fn open(segment: Segment, list: &[u8], baud: u32, practice: bool, origin: f64) -
 }
 
 // Baud, practice flag, origin, and the list behind its length.
-pub fn open_list(segment: Segment, arguments: &[u8]) -> Segment {
+pub(crate) fn open_list(segment: Segment, arguments: &[u8]) -> Segment {
     let baud = script::long(arguments);
     let practice = script::flag(script::rest(arguments, 4));
     let origin = script::float(script::rest(arguments, 5));
@@ -31,7 +31,7 @@ pub fn open_list(segment: Segment, arguments: &[u8]) -> Segment {
 }
 
 // The number of a built-in list, baud, practice flag and origin.
-pub fn open_builtin(segment: Segment, arguments: &[u8]) -> Segment {
+pub(crate) fn open_builtin(segment: Segment, arguments: &[u8]) -> Segment {
     let n = script::byte(arguments);
     let baud = script::long(script::rest(arguments, 1));
     let practice = script::flag(script::rest(arguments, 5));
@@ -68,7 +68,7 @@ fn sending_number(answer: Sending) -> u64 {
 }
 
 // A piece behind its length.
-pub fn send(segment: Segment, clock: Clock, arguments: &[u8]) -> Segment {
+pub(crate) fn send(segment: Segment, clock: Clock, arguments: &[u8]) -> Segment {
     let sent = bus::send(segment, script::rest(arguments, 2), clock);
     let answer = sent.answer;
     print::text(b"send");
@@ -95,13 +95,13 @@ fn receive_into(segment: Segment, lent: &mut [u8]) -> Segment {
 }
 
 // How many bytes are lent, at most 64.
-pub fn receive(segment: Segment, arguments: &[u8]) -> Segment {
+pub(crate) fn receive(segment: Segment, arguments: &[u8]) -> Segment {
     let mut bytes = no_bytes();
     let n = script::least(script::index(arguments), 64);
     receive_into(segment, &mut bytes[0..n])
 }
 
-pub fn clear(segment: Segment) -> Segment {
+pub(crate) fn clear(segment: Segment) -> Segment {
     print::text(b"clear");
     print::line();
     bus::clear(segment)
@@ -115,7 +115,7 @@ fn changing_number(answer: Changing) -> u64 {
     }
 }
 
-pub fn set_baud(segment: Segment, arguments: &[u8]) -> Segment {
+pub(crate) fn set_baud(segment: Segment, arguments: &[u8]) -> Segment {
     let changed = bus::set_baud(segment, script::long(arguments));
     let answer = changed.answer;
     print::text(b"baud");
@@ -135,7 +135,7 @@ fn outcome_number(outcome: Outcome) -> u64 {
 }
 
 // The allowance, and how many entries are lent. A line for each entry follows.
-pub fn find(segment: Segment, clock: Clock, arguments: &[u8]) -> Segment {
+pub(crate) fn find(segment: Segment, clock: Clock, arguments: &[u8]) -> Segment {
     let allowance = script::long(arguments);
     let lent = script::index(script::rest(arguments, 4));
     let core = search::search_core(segment, clock, allowance, lent);

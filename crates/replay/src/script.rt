@@ -22,25 +22,25 @@ pub const SEARCH: u8 = 9;
 
 pub const BUILTIN: u8 = 10;
 
-pub fn least(a: usize, b: usize) -> usize
+pub(crate) fn least(a: usize, b: usize) -> usize
     ensures { λ r. ⌜ (r ≤ a) × (r ≤ b) ⌝ }
 {
     if a < b { a } else { b }
 }
 
 // The first n bytes, or all.
-pub fn first(s: &[u8], n: usize) -> &[u8] {
+pub(crate) fn first(s: &[u8], n: usize) -> &[u8] {
     let end = least(n, s.len());
     &s[0..end]
 }
 
 // The bytes from place n on.
-pub fn rest(s: &[u8], n: usize) -> &[u8] {
+pub(crate) fn rest(s: &[u8], n: usize) -> &[u8] {
     let from = least(n, s.len());
     &s[from..]
 }
 
-pub fn byte(s: &[u8]) -> u8 {
+pub(crate) fn byte(s: &[u8]) -> u8 {
     if 0 < s.len() {
         return s[0];
     }
@@ -53,13 +53,13 @@ fn wide(x: u8) -> u32
     x as u32
 }
 
-pub fn word(s: &[u8]) -> u32
+pub(crate) fn word(s: &[u8]) -> u32
     ensures { λ r. ⌜ r < 65536 ⌝ }
 {
     wide(byte(s)) * 256 + wide(byte(rest(s, 1)))
 }
 
-pub fn long(s: &[u8]) -> u32 {
+pub(crate) fn long(s: &[u8]) -> u32 {
     word(s) * 65536 + word(rest(s, 2))
 }
 
@@ -69,16 +69,16 @@ fn wide32(x: u32) -> u64
     x as u64
 }
 
-pub fn float(s: &[u8]) -> f64 {
+pub(crate) fn float(s: &[u8]) -> f64 {
     seconds::f64_from_bits(wide32(long(s)) * 4294967296 + wide32(long(rest(s, 4))))
 }
 
-pub fn flag(s: &[u8]) -> bool {
+pub(crate) fn flag(s: &[u8]) -> bool {
     byte(s) != 0
 }
 
 // A byte as a count.
-pub fn index(s: &[u8]) -> usize
+pub(crate) fn index(s: &[u8]) -> usize
     ensures { λ r. ⌜ r < 256 ⌝ }
 {
     byte(s) as usize
@@ -110,7 +110,7 @@ fn wanted(s: &[u8]) -> usize {
 }
 
 // The same, and 0 for a command that is cut off.
-pub fn used(s: &[u8]) -> usize
+pub(crate) fn used(s: &[u8]) -> usize
     ensures { λ r. ⌜ r ≤ length (now (s .entry)) ⌝ }
 {
     let n = wanted(s);

@@ -85,7 +85,7 @@ fn meters(segment: Segment) {
 }
 
 // Baud, origin, waiting input, queue and number of meters; then the meters.
-pub fn state(segment: Segment) {
+pub(crate) fn state(segment: Segment) {
     let input = segment.input;
     let queue = segment.queue;
     print::text(b"state");
@@ -121,7 +121,7 @@ fn listening(segment: Segment) -> usize {
 }
 
 // Baud, waiting input, how much is queued, and how many meters listen.
-pub fn short_state(segment: Segment) {
+pub(crate) fn short_state(segment: Segment) {
     let input = segment.input;
     print::text(b"short");
     print::next(print::wide32(segment.baud));
@@ -152,7 +152,7 @@ fn entry(e: EntryRecord) {
 }
 
 // A line for each entry.
-pub fn entries(core: Core) {
+pub(crate) fn entries(core: Core) {
     let end = script::least(core.count, bus::METERS);
     let mut i: usize = 0;
     while i < end {

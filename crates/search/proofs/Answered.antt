@@ -13,9 +13,8 @@ use Rattle.meter.specs.Hear.{rates}
 use Rattle.scenarios.specs.Tables.{isRate}
 use Rattle.scenarios.specs.Layout.{Listed, Layout, fits, noFit, readRecords}
 use Rattle.scenarios.specs.Check.{check, allPass}
-use Rattle.scenarios.specs.Opening.{capacity, fresh, Opened, opens, refuses, refusesRecord, openRecords, openList}
+use Rattle.scenarios.specs.Opening.{OpeningGives, capacity, fresh, Opened, opens, refuses, refusesRecord, openRecords, openList}
 use Rattle.bus.specs.Plain.{Plain}
-use Rattle.scenarios.specs.Opening.{OpeningGives}
 use Rattle.search.specs.Call.{Call, opening, sending, receiving, clearing, changing, searching, afterCall}
 use Rattle.search.specs.Answer.{Answer, opened, Gives, Answers}
 

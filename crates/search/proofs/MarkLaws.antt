@@ -9,7 +9,7 @@ use Rattle.laws.specs.Words.{if_then_else_}
 use Rattle.meter.specs.PlainMeter.{PlainMeter}
 use Rattle.meter.specs.declared.Fault.{Fault}
 use Rattle.meter.specs.declared.Fault.the-variants.{None, Checksum, Truncated, Busy, WrongAddress, Flaky, TooMany}
-use Rattle.meter.specs.Meter.{with, withSelected, reset, flaky, hears, put, matches}
+use Rattle.meter.specs.Meter.{withSelected, withHearsNext, reset, flaky, hears, put, matches}
 use Rattle.meter.specs.Hear.{Heard, quiet, answers, E5, select}
 use Rattle.search.specs.Marks.{bitIf, yesOf, hearsOf, marked}
 use Rattle.search.specs.Packing.{on, stand, standing}
@@ -126,7 +126,7 @@ module _ (s : ℕ) (b : Bool) where
 -- ---- select, with its two tests handed in
 
 abbrev pub putB : Bool → PlainMeter → PlainMeter
-putB f n = if f then with n (n .primary, n .baud) (n .selected) (n .part, n .last) (n .access, n .readouts) (not (n .hearsNext)) else n
+putB f n = if f then withHearsNext (not (n .hearsNext)) n else n
 
 abbrev selectB : Bool → Bool → PlainMeter → Heard
 selectB b f n =

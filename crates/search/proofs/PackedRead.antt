@@ -15,7 +15,7 @@ use Rattle.meter.specs.PlainMeter.{PlainMeter}
 use Rattle.meter.specs.declared.Clock.{Clock}
 use Rattle.meter.specs.declared.Fault.{Fault}
 use Rattle.meter.specs.declared.Fault.the-variants.{None, Checksum, Truncated, Busy, WrongAddress, Flaky, TooMany}
-use Rattle.meter.specs.Meter.{hears, flaky, put, asked}
+use Rattle.meter.specs.Meter.{withHearsNext, hears, flaky, put, asked}
 use Rattle.meter.specs.Hear.{Heard, quiet, request}
 use Rattle.meter.specs.Response.{readout}
 use Rattle.meter.proofs.HearLaws.{hear-reading}
@@ -145,23 +145,7 @@ put-parts : (n : PlainMeter) → ((put n) .digits ≡ n .digits) × ((put n) .fa
 unfolding put
 put-parts n = go (flaky (n .fault))
   where
-    go : (b : Bool) → let q = (if b then record {
-      primary = n .primary;
-      digits = n .digits;
-      manufacturer = n .manufacturer;
-      version = n .version;
-      medium = n .medium;
-      model = n .model;
-      fault = n .fault;
-      access = n .access;
-      baud = n .baud;
-      selected = n .selected;
-      part = n .part;
-      last = n .last;
-      readouts = n .readouts;
-      seed = n .seed;
-      hearsNext = not (n .hearsNext);
-    } else n) in (q .digits ≡ n .digits) × (q .fault ≡ n .fault) × (q .readouts ≡ n .readouts)
+    go : (b : Bool) → let q = (if b then withHearsNext (not (n .hearsNext)) n else n) in (q .digits ≡ n .digits) × (q .fault ≡ n .fault) × (q .readouts ≡ n .readouts)
     go true = (refl, refl, refl)
     go false = (refl, refl, refl)
 

@@ -11,7 +11,7 @@ use Rattle.meter.specs.PlainMeter.{PlainMeter}
 use Rattle.meter.specs.declared.Clock.{Clock}
 use Rattle.meter.specs.declared.Fault.{Fault}
 use Rattle.meter.specs.declared.Fault.the-variants.{None, Checksum, Truncated, Busy, WrongAddress, Flaky, TooMany}
-use Rattle.meter.specs.Meter.{flaky, hears, put, asked, partNow, readoutsNow}
+use Rattle.meter.specs.Meter.{flaky, hears, put, asked, readoutsNow}
 use Rattle.meter.specs.Hear.{Heard, answers, request}
 use Rattle.search.specs.Marks.{bitIf, yesOf, hearsOf, readoutsIn, readMark}
 use Rattle.search.specs.Packing.{on, stand, standing}

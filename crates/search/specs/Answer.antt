@@ -3,9 +3,8 @@ use mathlib.Core.Path.{_≡_}
 use mathlib.Core.Bool.{Bool}
 use mathlib.Core.List.{List, [], _∷_}
 use Prim.Native.Nat.{ℕ}
-use Rattle.scenarios.specs.Opening.{openList}
+use Rattle.scenarios.specs.Opening.{OpeningGives, openList}
 use Rattle.bus.specs.Plain.{Plain}
-use Rattle.scenarios.specs.Opening.{OpeningGives}
 use Rattle.bus.specs.Calls.{send, receive, changeBaud}
 use Rattle.search.specs.declared.EntryRecord.{EntryRecord}
 use Rattle.search.specs.Walk.{searchCall}

@@ -6,7 +6,7 @@ use lib.Dec.{eqb}
 use lib.ListN.{take, drop, replicate}
 use Rattle.laws.specs.Words.{if_then_else_}
 use Rattle.meter.specs.PlainMeter.{PlainMeter}
-use Rattle.meter.specs.Meter.{with}
+use Rattle.meter.specs.Meter.{with, reached}
 use Rattle.values.specs.Values.{digitsOf}
 use Rattle.meter.specs.declared.Meter.{Meter}
 use Rattle.meter.specs.declared.Fault.{Fault}
@@ -70,7 +70,7 @@ lastIn false false l = l
 -- selected, reset, hears next, last FCB clear, access number, readouts
 abbrev pub stand : PlainMeter → Bool → Bool → Bool → Bool → ℕ → ℕ → PlainMeter
 stand m selected fresh hears clear access readouts =
-    with m (m .primary, m .baud) selected (partIn clear fresh (m .part), lastIn clear fresh (m .last)) (access, readouts) hears
+    with m (reached m) selected (partIn clear fresh (m .part), lastIn clear fresh (m .last)) (access, readouts) hears
 
 -- a meter at bus baud, as its mark has it
 unfoldable pub standing : PlainMeter → ℕ → PlainMeter
