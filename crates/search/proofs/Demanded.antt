@@ -2,15 +2,16 @@
 use mathlib.Core.Path.{_≡_, sym, ap, _∙_, subst}
 use mathlib.Core.Bool.{true}
 use mathlib.Core.List.{List, [], _∷_, List·Memᴰ, List·Memᴰ·head, List·Memᴰ·tail}
-use Prim.Native.Nat.{ℕ}
+use Prim.Native.Nat.{ℕ, _+_, _*_, _/_, _^_, _≤_, min}
 use native.Mathlib.Omega.{arith}
+use lib.ListN.{length}
 use Rattle.laws.specs.Words.{Every}
 use Rattle.laws.proofs.Lists.{every-keep}
 use Rattle.meter.specs.declared.Clock.{Clock}
 use Rattle.bus.specs.Plain.{Plain, blank}
 use Rattle.search.specs.declared.EntryRecord.{EntryRecord}
-use Rattle.search.specs.Walk.{probe, read, Walked, wholeWalk, searchCall}
-use Rattle.search.specs.Entries.{atBus, atBusBaud}
+use Rattle.search.specs.Walk.{probe, read, Walked, wholeWalk, Searched, searchCall}
+use Rattle.search.specs.Entries.{atBus, atBusBaud, D, sumTo}
 use Rattle.search.specs.Call.{opening, afterCalls}
 use Rattle.search.specs.Demand.{Demanded, Demand3}
 use Rattle.search.proofs.Seen.{IdDigits, WellFormed}
@@ -58,3 +59,8 @@ pub demanded : Demand3
 demanded list bus practice origin cs k a lent e =
     let s = afterCalls (opening list bus practice origin ∷ cs) blank in
     search-demanded k a lent s (all-well (opening list bus practice origin ∷ cs) blank blank-well) (accepted-allowed k a lent s e)
+
+-- the bound on the price asks nothing of the meters: it holds with a flaky one at bus baud too
+pub bound-always : (a : ℕ) (lent : List EntryRecord) (s : Plain) (w : Walked) (r : Searched) → Demanded a lent s w r
+    → 1 + 10 * D (atBusBaud s) ≤ 1 + 10 * sumTo 8 (λ k. min (10 ^ k) (length (atBusBaud s) / 2))
+bound-always a lent s w r d = d .bound

@@ -1,0 +1,5 @@
+pub mod Blocks
+pub mod Meters
+pub mod Numbers
+pub mod Whole
+pub mod Worked

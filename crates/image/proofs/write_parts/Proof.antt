@@ -1,0 +1,139 @@
+-- `image::write_parts` meets its contract. Assumes nothing.
+use mathlib.Core.Path.{_≡_, sym, _∙_}
+use Prim.Native.Nat.{_-_, _*_}
+use native.Mathlib.Omega.{arith}
+use lib.ListN.{length, drop}
+use Rattle.laws.proofs.Sweep.{length-mapped}
+use Rattle.scenarios.specs.Opening.{capacity}
+use Rattle.image.proofs.Blocks.{length-rest}
+use Rattle.image.proofs.Whole.{copies}
+use borrow.Author.Needs.{needs}
+use Rattle.image.proofs.write_parts.Statement.{statement}
+use Rattle.image.proofs.write_parts.Tie as tie
+
+-- how long the arrays are
+long-input : (c : tie.Start) → length (c .args .s .input) ≡ 260
+long-input c = search needs
+
+long-queue : (c : tie.Start) → length (c .args .s .queue) ≡ 4096
+long-queue c = search needs
+
+long-meters : (c : tie.Start) → length (c .args .s .meters) ≡ capacity
+unfolding capacity
+long-meters c = search (needs, length-mapped)
+
+long-head : (c : tie.After-head-bytes) → length (c .head-bytes .result) ≡ 18
+long-head c = search needs
+
+least-requires : tie.Need-least-requires
+least-requires c κs = search needs
+
+least-requires-2 : tie.Need-least-requires-2
+least-requires-2 c κs = search needs
+
+least-requires-3 : tie.Need-least-requires-3
+least-requires-3 c κs = search needs
+
+head-bytes-requires : tie.Need-head-bytes-requires
+head-bytes-requires c κs = search needs
+
+slice-aggregate-copy : tie.Need-slice-aggregate-copy
+slice-aggregate-copy c = search needs
+
+copy-requires : tie.Need-copy-requires
+copy-requires c κs = search needs
+
+slice-aggregate-copy-2 : tie.Need-slice-aggregate-copy-2
+slice-aggregate-copy-2 c = search needs
+
+copy-requires-2 : tie.Need-copy-requires-2
+copy-requires-2 c κs =
+    let f = c .before .before .before .before in
+    let s = f .before .before .before .before .before .before .before .before .before .before .before in
+    let e : length (f .copy .last .1 .1 .1 .0) ≡ length (s .args .bs .now) = f .copy .kept .1 .1 .1 .0 in
+    (omega (arith, long-input s, f .before .before .before .before .before .before .before .before .least2 .ensures), omega (arith, s .pre, e, f .before .before .before .before .before .before .before .before .least2 .ensures))
+
+slice-aggregate-copy-3 : tie.Need-slice-aggregate-copy-3
+slice-aggregate-copy-3 c = sym (long-queue (c .before .before .before .before .before .before .before .before .before .before .before .before .before .before .before .before .before .before .before))
+
+copy-requires-3 : tie.Need-copy-requires-3
+copy-requires-3 c κs =
+    let g = c .before .before .before .before in
+    let f = g .before .before .before .before .before in
+    let s = f .before .before .before .before .before .before .before .before .before .before .before in
+    let e : length (f .copy .last .1 .1 .1 .0) ≡ length (s .args .bs .now) = f .copy .kept .1 .1 .1 .0 in
+    let d : length (g .copy2 .last .1 .1 .1 .0) ≡ length (f .copy .last .1 .1 .1 .0) = g .copy2 .kept .1 .1 .1 .0 in
+    (omega (arith, long-queue s, f .before .before .before .before .before .before .before .least3 .ensures), omega (arith, s .pre, e, d, f .before .before .before .before .before .before .before .least3 .ensures))
+
+sub-write-meters : tie.Need-sub-write-meters
+sub-write-meters c = search needs
+
+part-write-meters-start : tie.Need-part-write-meters-start
+part-write-meters-start c = search needs
+
+part-write-meters-end : tie.Need-part-write-meters-end
+part-write-meters-end c = search needs
+
+write-meters-requires : tie.Need-write-meters-requires
+unfolding capacity
+write-meters-requires c κs =
+    let h = c .before .before .before in
+    let g = h .before .before .before .before .before in
+    let f = g .before .before .before .before .before in
+    let s = f .before .before .before .before .before .before .before .before .before .before .before in
+    let e : length (f .copy .last .1 .1 .1 .0) ≡ length (s .args .bs .now) = f .copy .kept .1 .1 .1 .0 in
+    let d : length (g .copy2 .last .1 .1 .1 .0) ≡ length (f .copy .last .1 .1 .1 .0) = g .copy2 .kept .1 .1 .1 .0 in
+    let b : length (h .copy3 .last .1 .1 .1 .0) ≡ length (g .copy2 .last .1 .1 .1 .0) = h .copy3 .kept .1 .1 .1 .0 in
+    (length-rest 4374 (25 * capacity) (h .copy3 .last .1 .1 .1 .0) (omega (arith, s .pre, e, d, b)), omega (arith, f .before .before .before .before .before .before .before .before .before .least .ensures))
+
+same-length : tie.Need-same-length
+same-length c = search needs
+
+returns : tie.Need-returns
+unfolding capacity
+returns c =
+    let m = c .before .before in
+    let h = m .before .before .before .before in
+    let g = h .before .before .before .before .before in
+    let f = g .before .before .before .before .before in
+    let s = f .before .before .before .before .before .before .before .before .before .before .before in
+    let l₃ = h .copy3 .last .1 .1 .1 .0 in
+    copies {l₀ = s .args .bs .now}
+    (record {
+      count-is = f .before .before .before .before .before .before .before .before .before .least .ensures;
+      waiting-is = f .before .before .before .before .before .before .before .before .least2 .ensures;
+      queued-is = f .before .before .before .before .before .before .before .least3 .ensures;
+      input-long = long-input s;
+      queue-long = long-queue s;
+      meters-long = long-meters s;
+      long = s .pre;
+      head-long = long-head (f .before .before .before .before .before .before);
+      head-is = f .before .before .before .before .before .before .head-bytes .ensures;
+      first = f .copy .ensures;
+      second = g .copy2 .ensures;
+      third = h .copy3 .ensures;
+      ms-long = m .write-meters .kept .1 .1 .0 ∙ write-meters-requires (m .before) (m .write-meters .lifetimes) .0;
+      last = m .write-meters .ensures;
+    })
+    (drop (length l₃ - 4374) (drop 4374 l₃))
+
+pub write-parts-spec : {M : Type 1} → statement M
+write-parts-spec =
+    tie.close
+    (tie.spec
+    least-requires
+    least-requires-2
+    least-requires-3
+    head-bytes-requires
+    slice-aggregate-copy
+    copy-requires
+    slice-aggregate-copy-2
+    copy-requires-2
+    slice-aggregate-copy-3
+    copy-requires-3
+    sub-write-meters
+    part-write-meters-start
+    part-write-meters-end
+    write-meters-requires
+    same-length
+    returns)

@@ -1,0 +1,455 @@
+// The entry points of the static library. The segment is an image that the caller keeps between the calls.
+ghost use mathlib.Core.Path.{_≡_};
+ghost use mathlib.Core.List.{List, [], _∷_, _++_};
+ghost use Prim.Native.Nat.{ℕ, _+_, _*_, _<_, _≤_};
+ghost use lib.ListN.{length, take, drop};
+ghost use lib.Seq.{paste};
+ghost use Rattle.values.specs.Values.{little};
+ghost use Rattle.frame.specs.Frame.{dataOf, write};
+ghost use Rattle.frame.specs.View.{telegramOf, whyOf, numberOf, countOf};
+ghost use Rattle.scenarios.specs.Given.{refusalNumber, refusalIndex};
+ghost use Rattle.bus.specs.Plain.{blank};
+ghost use Rattle.bus.specs.Calls;
+ghost use Rattle.bus.specs.View.{sendingNumber, changingNumber};
+ghost use Rattle.search.specs.View;
+ghost use Rattle.image.specs.Image.{imaged};
+ghost use Rattle.jezynar.specs.Answers.{Answers, Opens, receivedBy};
+ghost use Rattle.jezynar.specs.Searches.{kindByte, entryBytes, rows, flagNumber, summaryOf, searchBy, Searches};
+ghost use Rattle.jezynar.specs.Telegrams.{whyNumber, headOf, Parses, telegramBy, Writes};
+use bus::Changing;
+use bus::METERS;
+use bus::Segment;
+use bus::Sending;
+use frame::Frame;
+use frame::Outcome;
+use frame::Why;
+use frame::Written;
+use image::IMAGE;
+use meter::Clock;
+use scenarios::Refusal;
+use search::EntryRecord;
+use search::Kind;
+
+// How many bytes an image has.
+#[no_mangle]
+pub extern "C" fn segment_image_len() -> usize
+    ensures { λ r. ⌜ r ≡ 5974 ⌝ }
+{
+    IMAGE
+}
+
+// No meters, 2400 Bd, origin 0.
+#[no_mangle]
+pub extern "C" fn segment_new(image: &mut [u8; IMAGE])
+    ensures { λ _. ⌜ imaged (now (image .exit)) ≡ blank ⌝ }
+{
+    let s = Segment::new();
+    image::write_image(s, image);
+}
+
+// Empties the queue alone.
+#[no_mangle]
+pub extern "C" fn segment_clear(image: &mut [u8; IMAGE])
+    ensures { λ _. ⌜ imaged (now (image .exit)) ≡ Calls.clear (imaged (now (image .entry))) ⌝ }
+{
+    let s = image::read_image(image);
+    let t = bus::clear(s);
+    image::write_image(t, image);
+}
+
+fn changing_number(answer: Changing) -> u32
+    ensures { λ r. ⌜ r ≡ changingNumber answer ⌝ }
+{
+    match answer {
+        Changing::Accepted => 0,
+        Changing::NoRate => 10,
+    }
+}
+
+// Sets the bus baud and empties the input. 10: no rate.
+#[no_mangle]
+pub extern "C" fn segment_set_baud(image: &mut [u8; IMAGE], baud: u32) -> u32
+    ensures { λ r. ⌜ Answers (Calls.changeBaud baud (imaged (now (image .entry)))) r (now (image .entry)) (now (image .exit)) ⌝ }
+{
+    let s = image::read_image(image);
+    let done = bus::set_baud(s, baud);
+    let answer = done.answer;
+    let number = changing_number(answer);
+    if number != 0 {
+        return number;
+    }
+    let t = done.segment;
+    image::write_image(t, image);
+    0
+}
+
+// number + 256 * index
+fn packed(refusal: Refusal) -> u32
+    requires { ⌜ refusalIndex refusal < 64 ⌝ }
+    ensures { λ r. ⌜ r ≡ refusalNumber refusal + 256 * refusalIndex refusal ⌝ }
+{
+    let index = scenarios::opening::refusal_index(refusal);
+    let number = scenarios::opening::refusal_number(refusal);
+    number as u32 + 256 * (index as u32)
+}
+
+// Opens the segment of a list. Refused with 1 to 10.
+#[no_mangle]
+pub extern "C" fn segment_open(
+    image: &mut [u8; IMAGE],
+    list: &[u8],
+    baud: u32,
+    practice: bool,
+    origin: f64,
+) -> u32
+    ensures { λ r. ⌜ Opens (now (list .entry)) baud practice origin r (now (image .entry)) (now (image .exit)) ⌝ }
+{
+    let s = image::read_image(image);
+    let done = bus::open(s, list, baud, practice, origin);
+    let refusal = done.answer;
+    let answer = packed(refusal);
+    if answer != 0 {
+        return answer;
+    }
+    let t = done.segment;
+    image::write_image(t, image);
+    0
+}
+
+fn sending_number(answer: Sending) -> u32
+    ensures { λ r. ⌜ r ≡ sendingNumber answer ⌝ }
+{
+    match answer {
+        Sending::Accepted => 0,
+        Sending::PieceTooLong => 13,
+        Sending::ClockOutOfRange => 14,
+        Sending::QueueFull => 15,
+    }
+}
+
+// Sends a piece at a clock. 13: piece over 1,024; 14: a clock field out of range; 15: queue would pass 4,096.
+#[no_mangle]
+pub extern "C" fn segment_send(
+    image: &mut [u8; IMAGE],
+    piece: &[u8],
+    secs: f64,
+    year: u32,
+    month: u32,
+    day: u32,
+    hour: u32,
+    minute: u32,
+) -> u32
+    ensures { λ r. ⌜ Answers (Calls.send (now (piece .entry)) (record { now = secs; year = year; month = month; day = day; hour = hour; minute = minute }) (imaged (now (image .entry)))) r (now (image .entry)) (now (image .exit)) ⌝ }
+{
+    let s = image::read_image(image);
+    let clock = Clock {
+        now: secs,
+        year: year,
+        month: month,
+        day: day,
+        hour: hour,
+        minute: minute,
+    };
+    let done = bus::send(s, piece, clock);
+    let answer = done.answer;
+    let number = sending_number(answer);
+    if number != 0 {
+        return number;
+    }
+    let t = done.segment;
+    image::write_image(t, image);
+    0
+}
+
+// Hands out the least of 32, the lent length and the queued bytes.
+#[no_mangle]
+pub extern "C" fn segment_receive(image: &mut [u8; IMAGE], lent: &mut [u8]) -> usize
+    ensures { λ r. ⌜ receivedBy r (now (lent .exit)) (now (image .exit)) ≡ Calls.receive (now (lent .entry)) (imaged (now (image .entry))) ⌝ }
+{
+    let s = image::read_image(image);
+    let done = bus::receive(s, lent);
+    let t = done.segment;
+    image::write_image(t, image);
+    done.count
+}
+
+// ---- the search
+
+fn kind_byte(kind: Kind) -> u8
+    ensures { λ r. ⌜ r ≡ kindByte kind ⌝ }
+{
+    match kind {
+        Kind::One => 1,
+        Kind::Mute => 2,
+        Kind::Many => 3,
+    }
+}
+
+// Kind, eight digits, count, three bytes 0.
+fn entry_bytes(e: EntryRecord) -> [u8; 16]
+    ensures { λ r. ⌜ r ≡ entryBytes e ⌝ }
+{
+    let kind = e.kind;
+    let d = e.digits;
+    let n = values::le4(e.count as u64);
+    [
+        kind_byte(kind),
+        d[0],
+        d[1],
+        d[2],
+        d[3],
+        d[4],
+        d[5],
+        d[6],
+        d[7],
+        n[0],
+        n[1],
+        n[2],
+        n[3],
+        0,
+        0,
+        0,
+    ]
+}
+
+// The first n bytes of `from` go into `to` from `p` on.
+fn copy(from: &[u8], n: usize, to: &mut [u8], p: usize)
+    requires { ⌜ (n ≤ length (now from)) × (p + n ≤ length (now to)) ⌝ }
+    ensures { λ _. ⌜ now (to .exit) ≡ paste (now (to .entry)) p (now (from .entry)) n ⌝ }
+{
+    let mut j: usize = 0;
+    while j < n {
+        to[p + j] = from[j];
+        j += 1;
+    }
+}
+
+// The first count entries, 16 bytes each; the bytes past them stay.
+fn put_entries(found: [EntryRecord; METERS], count: usize, lent: &mut [u8])
+    requires { ⌜ (count ≤ 64) × (16 * count ≤ length (now lent)) ⌝ }
+    ensures { λ _. ⌜ now (lent .exit) ≡ rows (take count found) ++ drop (16 * count) (now (lent .entry)) ⌝ }
+{
+    let mut i: usize = 0;
+    while i < count {
+        let e = found[i];
+        let b = entry_bytes(e);
+        copy(&b, 16, lent, 16 * i);
+        i += 1;
+    }
+}
+
+fn flag_number(b: bool) -> u64
+    ensures { λ r. ⌜ r ≡ flagNumber b ⌝ }
+{
+    if b { 1 } else { 0 }
+}
+
+fn summary_of(count: usize, probes: u32, spent: bool) -> [u8; 12]
+    ensures { λ r. ⌜ r ≡ summaryOf count probes spent ⌝ }
+{
+    let c = values::le4(count as u64);
+    let p = values::le4(probes as u64);
+    let s = values::le4(flag_number(spent));
+    [
+        c[0],
+        c[1],
+        c[2],
+        c[3],
+        p[0],
+        p[1],
+        p[2],
+        p[3],
+        s[0],
+        s[1],
+        s[2],
+        s[3],
+    ]
+}
+
+fn outcome_number(outcome: search::Outcome) -> u32
+    ensures { λ r. ⌜ r ≡ View.numberOf outcome ⌝ }
+{
+    match outcome {
+        search::Outcome::Made => 0,
+        search::Outcome::ClockOutOfRange => 14,
+        search::Outcome::NotEmpty => 16,
+        search::Outcome::TooFewLent => 17,
+    }
+}
+
+// Searches with an allowance of probes; 16 lent bytes for each entry.
+// 14: a clock field out of range; 16: input or queue not empty; 17: fewer entries lent than meters opened.
+#[no_mangle]
+pub extern "C" fn segment_search(
+    image: &mut [u8; IMAGE],
+    secs: f64,
+    year: u32,
+    month: u32,
+    day: u32,
+    hour: u32,
+    minute: u32,
+    allowance: u32,
+    entries: &mut [u8],
+    summary: &mut [u8; 12],
+) -> u32
+    ensures { λ r. ⌜ Searches (searchBy (record { now = secs; year = year; month = month; day = day; hour = hour; minute = minute }) allowance (now (entries .entry)) (imaged (now (image .entry)))) r (now (image .entry)) (now (image .exit)) (now (entries .entry)) (now (entries .exit)) (now (summary .entry)) (now (summary .exit)) ⌝ }
+{
+    let s = image::read_image(image);
+    let clock = Clock {
+        now: secs,
+        year: year,
+        month: month,
+        day: day,
+        hour: hour,
+        minute: minute,
+    };
+    let room = entries.len() / 16;
+    let core = search::search_core(s, clock, allowance, room);
+    let outcome = core.outcome;
+    let number = outcome_number(outcome);
+    if number != 0 {
+        return number;
+    }
+    let found = core.entries;
+    let count = core.count;
+    put_entries(found, count, entries);
+    *summary = summary_of(count, core.probes, core.spent);
+    let t = core.segment;
+    image::write_image(t, image);
+    0
+}
+
+// ---- telegrams
+
+fn why_number(why: Why) -> u32
+    ensures { λ r. ⌜ r ≡ whyNumber (whyOf why) ⌝ }
+{
+    match why {
+        Why::Checksum => 2,
+        Why::Stop => 3,
+        Why::Header => 4,
+        Why::Length => 5,
+        Why::Start => 6,
+    }
+}
+
+fn head_of(frame: Frame) -> [u8; 4]
+    ensures { λ r. ⌜ ((d : List ℕ) → r ≡ headOf (telegramOf frame d)) ⌝ }
+{
+    match frame {
+        Frame::Ack => [0, 0, 0, 0],
+        Frame::Short { control, address } => [1, control, address, 0],
+        Frame::Long {
+            control,
+            address,
+            ci,
+        } => [2, control, address, ci],
+    }
+}
+
+// ACK and short have no data.
+fn data_count(frame: Frame, data: &[u8]) -> usize
+    ensures { λ r. ⌜ r ≡ length (dataOf (telegramOf frame (now («data» .entry)))) ⌝ }
+{
+    match frame {
+        Frame::Ack => 0,
+        Frame::Short {
+            control: _,
+            address: _,
+        } => 0,
+        Frame::Long {
+            control: _,
+            address: _,
+            ci: _,
+        } => data.len(),
+    }
+}
+
+fn description(head: [u8; 4], count: usize, used: usize) -> [u8; 16]
+    ensures { λ r. ⌜ r ≡ head ++ little 4 count ++ little 4 used ++ 0 ∷ 0 ∷ 0 ∷ 0 ∷ [] ⌝ }
+{
+    let n = values::le4(count as u64);
+    let u = values::le4(used as u64);
+    [
+        head[0],
+        head[1],
+        head[2],
+        head[3],
+        n[0],
+        n[1],
+        n[2],
+        n[3],
+        u[0],
+        u[1],
+        u[2],
+        u[3],
+        0,
+        0,
+        0,
+        0,
+    ]
+}
+
+// The telegram in front of some bytes: 0 complete, 1 incomplete, 2 to 6 invalid (checksum, stop, header, length, start).
+#[no_mangle]
+pub extern "C" fn frame_parse(bytes: &[u8], out: &mut [u8; 16]) -> u32
+    ensures { λ r. ⌜ Parses (Rattle.frame.specs.Frame.parse (now (bytes .entry))) r (now (out .entry)) (now (out .exit)) ⌝ }
+{
+    match frame::parse(bytes) {
+        Outcome::Complete { frame, len, used } => {
+            let count = data_count(frame, frame::data_of(bytes, len));
+            *out = description(head_of(frame), count, used);
+            0
+        }
+        Outcome::Incomplete => 1,
+        Outcome::Invalid(why) => why_number(why),
+    }
+}
+
+// Its data stand beside it.
+fn frame_by(kind: u8, control: u8, address: u8, ci: u8) -> Frame
+    ensures { λ r. ⌜ ((d : List ℕ) → telegramOf r d ≡ telegramBy kind control address ci d) ⌝ }
+{
+    if kind == 0 {
+        return Frame::Ack;
+    }
+    if kind == 1 {
+        return Frame::Short {
+            control: control,
+            address: address,
+        };
+    }
+    Frame::Long {
+        control: control,
+        address: address,
+        ci: ci,
+    }
+}
+
+// number * 65536 + bytes written
+fn packed_written(w: Written) -> u32
+    requires { ⌜ countOf w < 65536 ⌝ }
+    ensures { λ r. ⌜ r ≡ numberOf w * 65536 + countOf w ⌝ }
+{
+    match w {
+        Written::Bytes(n) => n as u32,
+        Written::DataTooLong => 11 * 65536,
+        Written::NoRoom => 12 * 65536,
+    }
+}
+
+// Writes a telegram. 11: data over 252; 12: lent bytes too few.
+#[no_mangle]
+pub extern "C" fn frame_encode(
+    kind: u8,
+    control: u8,
+    address: u8,
+    ci: u8,
+    data: &[u8],
+    lent: &mut [u8],
+) -> u32
+    ensures { λ r. ⌜ Writes (write (telegramBy kind control address ci (now («data» .entry))) (now (lent .entry))) r (now (lent .exit)) ⌝ }
+{
+    let f = frame_by(kind, control, address, ci);
+    packed_written(frame::encode(f, data, lent))
+}
