@@ -4,7 +4,7 @@ use Prim.Native.Nat.{ℕ, _≤_, _<_}
 use lib.ListN.{length}
 use Rattle.laws.proofs.Lists.{every-append}
 use Rattle.frame.proofs.Waiting.{Bytes, waiting-short}
-use Rattle.meter.specs.declared.Clock.{Clock}
+use Rattle.clock.specs.declared.Clock.{Clock}
 use Rattle.bus.specs.Plain.{Plain}
 use Rattle.bus.specs.Steps.{withInput, settled}
 use Rattle.bus.specs.Calls.{send}

@@ -2,24 +2,22 @@
 use mathlib.Core.Path.{_≡_, sym, ap, ap₂, _∙_}
 use mathlib.Core.Bool.{true, false}
 use mathlib.Core.List.{List, _++_, map}
-use Prim.Native.Nat.{ℕ, _+_, _-_, _≤_, _<_, min}
+use Prim.Native.Nat.{ℕ, _+_, _-_, _<_, min}
 use native.Mathlib.Omega.{arith}
-use borrow.Author.Tests.{lt-ltb, le-ltb}
 use lib.ListN.{length, take, length-take, length-append}
 use Rattle.laws.specs.Words.{if_then_else_}
 use Rattle.laws.proofs.Copy.{take-min}
 use Rattle.frame.specs.Frame.{Telegram}
 use Rattle.seconds.specs.Seconds.{elapsedOf}
-use Rattle.meter.specs.declared.Clock.{Clock}
+use Rattle.clock.specs.declared.Clock.{Clock}
 use Rattle.meter.specs.PlainMeter.{PlainMeter}
-use Rattle.meter.specs.Hear.{Heard, hear}
+use Rattle.hear.specs.Hear.{Heard, hear}
 use Rattle.bus.specs.declared.Segment.{Segment}
 use Rattle.bus.specs.declared.join.Joining.{Joining}
 use Rattle.bus.specs.Plain.{Plain, joined}
 use Rattle.bus.specs.Steps.{replies, toAll, heardBy, handled, withQueue}
 use Rattle.bus.specs.View.{plainOf}
 use Rattle.bus.specs.Joining.{lengthKept, bytesKept}
-use Rattle.bus.specs.Gives.{Gives}
 use Rattle.bus.proofs.JoiningLaws.{joined-is, length-kept}
 use Rattle.bus.proofs.SweepLaws.{Swept}
 
@@ -51,13 +49,12 @@ module _ (tel : Telegram) (k : Clock) (s t : Segment) (kept : Joining) (bytes : 
   same-queue = ap (λ p. p .queue) (w .segment)
 
   -- address FF
-  pub handled-all : true ≡ toAll tel → Gives after (record { full = false; segment = t })
+  pub handled-all : true ≡ toAll tel → plainOf t ≡ after
   handled-all e =
-      let v : after ≡ plainOf t =
-      handled-is
+      sym
+      (handled-is
       ∙ ap (λ b. withQueue (if b then plainOf s .queue else plainOf s .queue ++ joined rs) (plainOf t)) (sym e)
-      ∙ ap (λ q. withQueue q (plainOf t)) (sym same-queue) in
-      record { full = sym (le-ltb 4096 (length (after .queue)) (omega (arith, ap (λ p. length (p .queue)) v, queue-fits t long))); segment = λ z. sym v }
+      ∙ ap (λ q. withQueue q (plainOf t)) (sym same-queue))
 
   module _ (e : false ≡ toAll tel) (queued n : ℕ) (q : queued ≡ min (t .queued) 4096) (is : n ≡ lengthKept kept) where
     joins-queue : after ≡ withQueue (plainOf t .queue ++ bytesKept kept bytes) (plainOf t)
@@ -72,19 +69,11 @@ module _ (tel : Telegram) (k : Clock) (s t : Segment) (kept : Joining) (bytes : 
         ∙ length-append (plainOf t .queue) (bytesKept kept bytes)
         ∙ ap₂ (λ x y. x + y) (queue-fits t long ∙ sym q) (length-kept (w .joins))
 
-    pub handled-full : 4096 - queued < n → Gives after (record { full = true; segment = t })
-    handled-full h =
-        record {
-          full = sym (lt-ltb 4096 (length (after .queue)) (omega (arith, long-queue)));
-          segment = λ z. let y : _≡_ {A = ℕ} 0 1 = cc in absurd (omega arith);
-        }
+    pub handled-full : 4096 - queued < n → 4096 < length (after .queue)
+    handled-full h = omega (arith, long-queue)
 
-    pub handled-fits : (new : List ℕ) → n ≤ 4096 - queued → take (queued + lengthKept kept) new ≡ take queued (t .queue) ++ bytesKept kept bytes
-        → Gives after (record { full = false; segment = queueing new (queued + n) t })
+    pub handled-fits : (new : List ℕ) → take (queued + lengthKept kept) new ≡ take queued (t .queue) ++ bytesKept kept bytes → plainOf (queueing new (queued + n) t) ≡ after
     unfolding plainOf
-    handled-fits new h p =
+    handled-fits new p =
         let first : take queued (t .queue) ≡ plainOf t .queue = ap (λ n. take n (t .queue)) (q ∙ ap (min (t .queued)) (sym long)) ∙ take-min (t .queued) (t .queue) in
-        record {
-          full = sym (le-ltb 4096 (length (after .queue)) (omega (arith, long-queue)));
-          segment = λ z. ap (λ x. withQueue x (plainOf t)) (ap (λ m. take (queued + m) new) is ∙ p ∙ ap (λ x. x ++ bytesKept kept bytes) first) ∙ sym joins-queue;
-        }
+        ap (λ x. withQueue x (plainOf t)) (ap (λ m. take (queued + m) new) is ∙ p ∙ ap (λ x. x ++ bytesKept kept bytes) first) ∙ sym joins-queue

@@ -9,7 +9,7 @@ use lib.ListN.{length, length-append}
 use Rattle.laws.specs.Words.{if_then_else_, keep, Every}
 use Rattle.laws.proofs.Lists.{and-l, and-r}
 use Rattle.meter.specs.PlainMeter.{PlainMeter}
-use Rattle.meter.specs.Hear.{silence, says, Heard, E5}
+use Rattle.hear.specs.Hear.{silence, says, Heard, E5}
 use Rattle.bus.specs.Plain.{isE5, allE5, endToEnd, longest, overlaid, places, joined}
 use Rattle.bus.specs.Steps.{withReply, replies}
 

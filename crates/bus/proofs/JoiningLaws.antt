@@ -7,15 +7,16 @@ use native.Mathlib.Omega.{arith}
 use lib.Bits.{bitAnd}
 use lib.Dec.{ltb}
 use borrow.Author.Tests.{ltb-true, ltb-false, eqb-true}
-use lib.ListN.{length, take, getD, replicate, length-take, length-append, getD-replicate, length-replicate, List·getD-eq-default}
+use lib.ListN.{length, take, getD, set, replicate, length-take, length-append, getD-replicate, length-replicate, List·getD-eq-default}
 use lib.Seq.{ext-getD, getD-take, length-take-le}
 use Rattle.laws.specs.Words.{if_then_else_, Every}
 use Rattle.laws.proofs.Lists.{every-append, and-l, and-r}
+use Rattle.hear.specs.Hear.{E5}
 use Rattle.bus.specs.declared.join.Joining.{Joining}
 use Rattle.bus.specs.Plain.{isE5, allE5, endToEnd, longest, overlaid, places, joined}
-use Rattle.bus.specs.Joining.{replyMost, Joins, lengthKept, bytesKept, said, Overlays}
+use Rattle.bus.specs.Joining.{replyMost, Joins, lengthKept, bytesKept, Overlays}
 use Rattle.bus.proofs.JoinLaws.{length-places}
-use Rattle.bus.proofs.OverlayLaws.{and-FF, overlaid-small, overlaid-more, allE5-more, longest-more}
+use Rattle.bus.proofs.OverlayLaws.{overlays-none, overlays-more, and-FF, overlaid-small, overlaid-more, allE5-more, longest-more}
 
 abbrev Small : List ℕ → Type 0
 Small r = Every (λ b. b < 256) r
@@ -121,12 +122,32 @@ module _ {rs : List (List ℕ)} {j : Joining} {bytes : List ℕ} where
   pub joined-is : Joins rs j bytes → joined rs ≡ bytesKept j bytes
   joined-is s = joined-as rs (s .small) ∙ rw (s .acks, s .count, sym (places-kept rs j bytes s))
 
-module _ {j : Joining} {bytes : List ℕ} {answered : Bool} (rs : List (List ℕ)) (r : List ℕ) where
-  pub joins-same : answered ≡ false → Joins rs j bytes → Joins (rs ++ said answered r) j bytes
-  joins-same e s = subst (λ l. Joins l j bytes) (sym (ap (λ b. rs ++ said b r) e ∙ append-nil rs)) s
+-- one E5 more
+and-true : (a : Bool) → a && true ≡ a
+and-true true = refl
+and-true false = refl
 
-  pub joins-said : answered ≡ true → Joins (rs ++ r ∷ []) j bytes → Joins (rs ++ said answered r) j bytes
-  joins-said e s = subst (λ b. Joins (rs ++ said b r) j bytes) (sym e) s
+small-none : (n i : ℕ) → getD (replicate n 0) i 0 < 256
+small-none zero i = omega arith
+small-none (suc n) zero = omega arith
+small-none (suc n) (suc i) = small-none n i
+
+module _ {rs : List (List ℕ)} {j : Joining} {old : List ℕ} where
+  pub joins-ack : {v n : ℕ} → Joins rs j old → v ≡ bitAnd (getD old 0 0) 0xE5 → n ≡ max (j .len) 1
+      → Joins (rs ++ E5 ∷ []) (record { count = j .count + 1; acks = j .acks; len = n }) (set old 0 v)
+  joins-ack {v} {n} s e l =
+      let ack : List ℕ = 0xE5 ∷ replicate 95 0 in
+      joins-more {bytes = ack} 1 {len = 1} {a = true} s (ap suc (length-replicate {A = ℕ} 95 0)) (omega arith, small-all (replicate 95 0) (λ i. small-none 95 i)) refl refl
+      (overlays-more overlays-none (omega (arith, s .room)) (omega arith) e)
+      (ap₂ (λ a b. record { count = j .count + 1; acks = a; len = b }) (sym (and-true (j .acks))) l)
+
+-- the replies that are added, said otherwise; and none
+module _ {j : Joining} {bytes : List ℕ} (rs : List (List ℕ)) where
+  pub joins-as : {xs ys : List (List ℕ)} → xs ≡ ys → Joins (rs ++ xs) j bytes → Joins (rs ++ ys) j bytes
+  joins-as e s = subst (λ x. Joins (rs ++ x) j bytes) e s
+
+  pub joins-still : Joins rs j bytes → Joins (rs ++ []) j bytes
+  joins-still s = subst (λ x. Joins x j bytes) (sym (append-nil rs)) s
 
 -- what is kept, by whether all replies are E5
 module _ (j : Joining) (bytes : List ℕ) where

@@ -10,7 +10,7 @@ use lib.ListN.{length, drop}
 use Rattle.laws.specs.Words.{if_then_else_, at}
 use Rattle.laws.proofs.Lists.{if-all}
 use Rattle.meter.specs.PlainMeter.{PlainMeter}
-use Rattle.meter.specs.Hear.{rates}
+use Rattle.meter.specs.Meter.{rates}
 use Rattle.scenarios.specs.Tables.{isRate}
 use Rattle.scenarios.specs.Layout.{Layout, fits, noFit, readRecords}
 use Rattle.scenarios.specs.Check.{allPass}

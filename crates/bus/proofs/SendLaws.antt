@@ -15,13 +15,14 @@ use Rattle.frame.specs.Frame.{Telegram, ack, short, long, Why, Parsed, complete
 use Rattle.frame.proofs.Waiting.{Bytes}
 use Rattle.frame.proofs.RoundTrip.{parse-encode, parse-back}
 use Rattle.meter.specs.PlainMeter.{PlainMeter}
-use Rattle.meter.specs.declared.Clock.{Clock}
-use Rattle.meter.specs.Hear.{Heard, hear}
-use Rattle.meter.proofs.HearLaws.{hear-digits}
+use Rattle.clock.specs.declared.Clock.{Clock}
+use Rattle.hear.specs.Hear.{Heard, hear}
+use Rattle.hear.proofs.HearLaws.{hear-digits}
 use Rattle.seconds.specs.Seconds.{elapsedOf}
 use Rattle.bus.specs.Plain.{Plain, joined}
 use Rattle.bus.specs.Steps.{replies, toAll, heardBy, handled, withInput, steps, settled}
-use Rattle.bus.specs.Calls.{Done, accepted, refused, fitsQueue, goodClock, send}
+use Rattle.bus.specs.Calls.{Done, accepted, refused, fitsQueue, send}
+use Rattle.clock.specs.Fields.{goodClock}
 
 -- ---- one telegram
 

@@ -6,15 +6,13 @@ use Prim.Native.Nat.{ℕ, _≤_, _<_, min}
 use borrow.Author.Tests.{lt-ltb, le-ltb, not-true, not-false}
 use lib.ListN.{length, take}
 use Rattle.laws.proofs.Copy.{take-min}
-use Rattle.laws.specs.Words.{if_then_else_}
-use Rattle.meter.specs.declared.Clock.{Clock}
+use Rattle.clock.specs.declared.Clock.{Clock}
 use Rattle.bus.specs.declared.Segment.{Segment}
-use Rattle.bus.specs.declared.settle.Handled.{Handled}
 use Rattle.bus.specs.Plain.{Plain}
 use Rattle.bus.specs.Steps.{withInput, settled}
-use Rattle.bus.specs.Calls.{accepted, refused, fitsQueue, goodClock, send}
+use Rattle.bus.specs.Calls.{refused, fitsQueue, send}
+use Rattle.clock.specs.Fields.{goodClock}
 use Rattle.bus.specs.View.{plainOf}
-use Rattle.bus.specs.Gives.{Gives}
 
 module _ (piece : List ℕ) (k : Clock) (s : Plain) where
   pub send-long : 1024 < length piece → refused 13 s ≡ send piece k s
@@ -31,15 +29,8 @@ module _ (piece : List ℕ) (k : Clock) (s : Plain) where
       unfolding send
       steps-taken = rw (le-ltb 1024 (length piece) short, sym g, not-false good h)
 
-      module _ {bytes : List ℕ} {r : Handled} (b : bytes ≡ s .input ++ piece) (gives : Gives (settled k (withInput bytes s)) r) where
-        all : send piece k s ≡ (if r .full then refused 15 s else accepted (settled k (withInput bytes s)))
-        all = steps-taken ∙ ap (λ x. fitsQueue s (settled k (withInput x s))) (sym b) ∙ ap (λ x. if x then refused 15 s else accepted (settled k (withInput bytes s))) (sym (gives .full))
-
-        pub send-full : r .full ≡ true → refused 15 s ≡ send piece k s
-        send-full f = sym (all ∙ ap (λ x. if x then refused 15 s else accepted (settled k (withInput bytes s))) f)
-
-        pub send-accepted : r .full ≡ false → accepted (plainOf (r .segment)) ≡ send piece k s
-        send-accepted f = ap accepted (gives .segment f) ∙ sym (all ∙ ap (λ x. if x then refused 15 s else accepted (settled k (withInput bytes s))) f)
+      pub send-settles : {bytes : List ℕ} → bytes ≡ s .input ++ piece → fitsQueue s (settled k (withInput bytes s)) ≡ send piece k s
+      send-settles b = ap (λ x. fitsQueue s (settled k (withInput x s))) b ∙ sym steps-taken
 
 -- the line holds what waits and the piece
 pub line-is : (s : Segment) (n : ℕ) (piece l : List ℕ) → n ≡ min (s .waiting) 260 → length (s .input) ≡ 260 → l ≡ take n (s .input) ++ piece → l ≡ plainOf s .input ++ piece

@@ -1,10 +1,9 @@
 -- The loop over the telegrams: what is left from here is the whole. Its turns, and its ways out.
 use mathlib.Core.Path.{_≡_, refl, sym, ap, _∙_}
-use mathlib.Core.Bool.{true, false}
 use mathlib.Core.List.{List, [], _++_}
 use Prim.Native.Nat.{ℕ, _+_, _-_, _≤_, _<_}
 use native.Mathlib.Omega.{arith}
-use borrow.Author.Tests.{lt-ltb, le-ltb, ltb-true}
+use borrow.Author.Tests.{lt-ltb, le-ltb}
 use lib.ListN.{length, take, drop, length-append, length-drop}
 use lib.Seq.{drop-drop, take-all}
 use Rattle.laws.specs.Words.{if_then_else_}
@@ -16,13 +15,12 @@ use Rattle.frame.specs.declared.Outcome.{Outcome}
 use Rattle.frame.specs.declared.Outcome.the-variants.{Complete, Incomplete, Invalid}
 use Rattle.frame.specs.View.{telegramOf, dataAt, whyOf, parsedOf}
 use Rattle.frame.proofs.RoundTrip.{parse-back}
-use Rattle.meter.specs.declared.Clock.{Clock}
+use Rattle.clock.specs.declared.Clock.{Clock}
 use Rattle.bus.specs.declared.Segment.{Segment}
-use Rattle.bus.specs.declared.settle.Handled.{Handled}
 use Rattle.bus.specs.Plain.{Plain, joined}
 use Rattle.bus.specs.Steps.{replies, toAll, heardBy, handled, withInput, settled}
 use Rattle.bus.specs.View.{plainOf}
-use Rattle.bus.specs.Gives.{Gives}
+use Rattle.bus.specs.Calls.{Done, accepted, refused, fitsQueue}
 use Rattle.bus.proofs.SendLaws.{used-some, steps-keeps, settled-complete, settled-incomplete, settled-invalid}
 use Rattle.bus.proofs.HandleLaws.{queue-fits}
 
@@ -50,6 +48,10 @@ waiting bytes n s =
 pub record Left (k : Clock) (bytes : List ℕ) (t₀ : Segment) (pos : ℕ) (t : Segment) : Type 0 where
   pub is : settled k (withInput (drop pos bytes) (plainOf t)) ≡ settled k (withInput bytes (plainOf t₀))
 
+-- what all the bytes come to
+abbrev all : Clock → List ℕ → Segment → Done
+all k bytes t₀ = fitsQueue (plainOf t₀) (settled k (withInput bytes (plainOf t₀)))
+
 module _ {k : Clock} {bytes : List ℕ} {t₀ : Segment} where
   pub left-none : Left k bytes t₀ 0 t₀
   left-none = record { is = refl }
@@ -63,42 +65,40 @@ module _ {k : Clock} {bytes : List ℕ} {t₀ : Segment} where
           ∙ sym (settled-complete k (withInput (drop pos bytes) (plainOf t)) tel used e)
           ∙ l .is
 
-      pub left-more : {h : Handled} → Gives (handled tel k (plainOf t .input) (plainOf t)) h → h .full ≡ false → Left k bytes t₀ (pos + used) (h .segment)
-      left-more g f = record { is = ap (λ x. settled k (withInput (drop (pos + used) bytes) x)) (g .segment f) ∙ taken }
+      abbrev next : Plain
+      next = handled tel k (plainOf t .input) (plainOf t)
+
+      pub left-more : {u : Segment} → plainOf u ≡ next → Left k bytes t₀ (pos + used) u
+      left-more e = record { is = ap (λ x. settled k (withInput (drop (pos + used) bytes) x)) e ∙ taken }
 
       -- the queue is too long already
-      pub left-full : {h : Handled} → Gives (handled tel k (plainOf t .input) (plainOf t)) h → h .full ≡ true → Gives (settled k (withInput bytes (plainOf t₀))) h
-      left-full {h} g f =
-          let p = handled tel k (plainOf t .input) (plainOf t) in
-          let long : 4096 < length (p .queue) = ltb-true 4096 (length (p .queue)) (sym (g .full) ∙ f) in
-          let more = settled-grows k (withInput (drop (pos + used) bytes) p) in
+      pub left-full : 4096 < length (next .queue) → refused 15 (plainOf t₀) ≡ all k bytes t₀
+      left-full h =
+          let more = settled-grows k (withInput (drop (pos + used) bytes) next) in
           let w = ap (λ x. length (x .queue)) taken in
-          record {
-            full = f ∙ sym (lt-ltb 4096 (length (settled k (withInput bytes (plainOf t₀)) .queue)) (omega arith));
-            segment = λ z. let y : _≡_ {A = ℕ} 0 1 = cc in absurd (omega arith);
-          }
+          sym (ap (λ b. if b then refused 15 (plainOf t₀) else accepted (settled k (withInput bytes (plainOf t₀)))) (lt-ltb 4096 (length (settled k (withInput bytes (plainOf t₀)) .queue)) (omega arith)))
 
     module _ (long : length (t .queue) ≡ 4096) where
+      -- the queue fits
+      accepts : {p : Plain} → settled k (withInput bytes (plainOf t₀)) ≡ p → p .queue ≡ plainOf t .queue → accepted p ≡ all k bytes t₀
+      accepts {p} w q =
+          sym
+          (ap (λ b. if b then refused 15 (plainOf t₀) else accepted (settled k (withInput bytes (plainOf t₀))))
+          (le-ltb 4096 (length (settled k (withInput bytes (plainOf t₀)) .queue)) (omega (arith, ap (λ x. length (x .queue)) w, ap length q, queue-fits t long)))
+          ∙ ap accepted w)
+
       -- what is left waits
       pub left-waits : (new : List ℕ) (n : ℕ) → parse (drop pos bytes) ≡ incomplete → n ≡ length (drop pos bytes) → take (length (drop pos bytes)) new ≡ drop pos bytes
-          → Gives (settled k (withInput bytes (plainOf t₀))) (record { full = false; segment = waiting new n t })
+          → accepted (plainOf (waiting new n t)) ≡ all k bytes t₀
       unfolding plainOf
       left-waits new n e m p =
           let w : settled k (withInput bytes (plainOf t₀)) ≡ withInput (drop pos bytes) (plainOf t) = sym (l .is) ∙ settled-incomplete k (withInput (drop pos bytes) (plainOf t)) e in
-          record {
-            full = sym (le-ltb 4096 (length (settled k (withInput bytes (plainOf t₀)) .queue)) (omega (arith, ap (λ x. length (x .queue)) w, queue-fits t long)));
-            segment = λ z. ap (λ x. withInput x (plainOf t)) (ap (λ i. take i new) m ∙ p) ∙ sym w;
-          }
+          ap (λ x. accepted (withInput x (plainOf t))) (ap (λ i. take i new) m ∙ p) ∙ accepts w refl
 
       -- all remaining input is discarded
-      pub left-drops : (why : Why) → parse (drop pos bytes) ≡ invalid why → Gives (settled k (withInput bytes (plainOf t₀))) (record { full = false; segment = waiting (t .input) 0 t })
+      pub left-drops : (why : Why) → parse (drop pos bytes) ≡ invalid why → accepted (plainOf (waiting (t .input) 0 t)) ≡ all k bytes t₀
       unfolding plainOf
-      left-drops why e =
-          let w : settled k (withInput bytes (plainOf t₀)) ≡ withInput [] (plainOf t) = sym (l .is) ∙ settled-invalid k (withInput (drop pos bytes) (plainOf t)) why e in
-          record {
-            full = sym (le-ltb 4096 (length (settled k (withInput bytes (plainOf t₀)) .queue)) (omega (arith, ap (λ x. length (x .queue)) w, queue-fits t long)));
-            segment = λ z. sym w;
-          }
+      left-drops why e = accepts (sym (l .is) ∙ settled-invalid k (withInput (drop pos bytes) (plainOf t)) why e) refl
 
 -- ---- what parsing said of the bytes from pos on
 

@@ -3,8 +3,8 @@ use mathlib.Core.Path.{_≡_, ap}
 use mathlib.Core.List.{List, [], map}
 use Rattle.frame.specs.Frame.{Why, invalid, parse}
 use Rattle.meter.specs.PlainMeter.{PlainMeter}
-use Rattle.meter.specs.declared.Clock.{Clock}
-use Rattle.meter.specs.Hear.{E5}
+use Rattle.clock.specs.declared.Clock.{Clock}
+use Rattle.hear.specs.Hear.{E5}
 use Rattle.bus.specs.Plain.{Plain, joined}
 use Rattle.bus.specs.Steps.{settled}
 use Rattle.bus.proofs.JoinLaws.{joined-acks}

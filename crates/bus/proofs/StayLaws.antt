@@ -7,11 +7,11 @@ use Rattle.laws.proofs.Lists.{map-map, map-same, every-all}
 use Rattle.frame.specs.Frame.{Telegram}
 use Rattle.seconds.specs.Seconds.{elapsedOf}
 use Rattle.meter.specs.PlainMeter.{PlainMeter}
-use Rattle.meter.specs.declared.Clock.{Clock}
+use Rattle.clock.specs.declared.Clock.{Clock}
 use Rattle.meter.specs.declared.Fault.{Fault}
 use Rattle.meter.specs.declared.Model.{Model}
-use Rattle.meter.specs.Hear.{hear}
-use Rattle.meter.proofs.KeepLaws.{Same, hear-same}
+use Rattle.hear.specs.Hear.{hear}
+use Rattle.hear.proofs.KeepLaws.{Same, hear-same}
 use Rattle.bus.specs.Plain.{Plain}
 use Rattle.bus.specs.Steps.{heardBy, handled}
 use Rattle.bus.specs.Calls.{send}

@@ -1,29 +1,29 @@
 -- The loop over the meters: its invariant, a turn, the end.
 use mathlib.Core.Path.{_≡_, refl, sym, ap, ap₂, _∙_, subst}
-use mathlib.Core.Bool.{Bool, true, false}
-use mathlib.Core.List.{List, [], _∷_, _++_, map}
+use mathlib.Core.Bool.{true}
+use mathlib.Core.List.{List, [], _∷_, _++_, map, append-nil}
 use Prim.Native.Nat.{ℕ, zero, suc, _+_, _≤_, _<_, min}
 use native.Mathlib.Numerals.{add-one}
 use native.Mathlib.Omega.{arith}
 use lib.ListN.{length, take, set, getD, replicate, length-map, length-take, List·getD-map}
 use lib.Seq.{take-suc}
-use Rattle.laws.specs.Words.{if_then_else_}
 use Rattle.laws.specs.Sweep.{swept}
 use Rattle.laws.proofs.Copy.{take-min}
 use Rattle.laws.proofs.Lists.{map-map}
 use Rattle.laws.proofs.Sweep.{getD-swept, set-swept, swept-min, take-swept}
 use Rattle.meter.specs.declared.Meter.{Meter}
 use Rattle.meter.specs.PlainMeter.{PlainMeter}
-use Rattle.meter.specs.declared.Heard.{Heard}
-use Rattle.meter.specs.View.{plainMeter, heardOf}
-use Rattle.meter.specs.Hear as hearing
-use Rattle.meter.specs.Hear.{Reply, silence, says}
+use Rattle.meter.specs.View.{plainMeter}
+use Rattle.hear.specs.Hear as hearing
+use Rattle.hear.specs.Hear.{Reply, silence, says}
 use Rattle.bus.specs.declared.Segment.{Segment}
 use Rattle.bus.specs.declared.join.Joining.{Joining}
+use Rattle.bus.specs.declared.settle.Stepped.{Stepped}
 use Rattle.bus.specs.Plain.{Plain}
 use Rattle.bus.specs.Steps.{withReply, replies}
 use Rattle.bus.specs.View.{plainOf}
-use Rattle.bus.specs.Joining.{replyMost, Joins, said}
+use Rattle.bus.specs.Joining.{replyMost, Joins}
+use Rattle.bus.specs.Step.{Steps}
 use Rattle.bus.proofs.JoiningLaws.{joins-none}
 
 -- ---- lists
@@ -43,6 +43,13 @@ module _ {A B : Type 0} (f : A → B) where
   map-append [] ys = refl
   map-append (x ∷ xs) ys = ap (λ r. f x ∷ r) (map-append xs ys)
 
+-- what stands at a place, put there again
+module _ {A : Type 0} where
+  set-same : (xs : List A) (i : ℕ) (d : A) → set xs i (getD xs i d) ≡ xs
+  set-same [] i d = refl
+  set-same (x ∷ xs) zero d = refl
+  set-same (x ∷ xs) (suc i) d = ap (λ r. x ∷ r) (set-same xs i d)
+
 -- ---- replies
 
 replies-append : (hs gs : List hearing.Heard) → replies (hs ++ gs) ≡ replies hs ++ replies gs
@@ -52,13 +59,6 @@ replies-append (h ∷ hs) gs = go (h .reply) (replies-append hs gs)
     go : (r : Reply) → replies (hs ++ gs) ≡ replies hs ++ replies gs → withReply r (replies (hs ++ gs)) ≡ withReply r (replies hs) ++ replies gs
     go silence e = e
     go (says b) e = ap (λ x. b ∷ x) e
-
-said-is : (h : Heard) → replies (heardOf h ∷ []) ≡ said (h .answered) (take (h .reply .len) (h .reply .bytes))
-said-is h = go (h .answered)
-  where
-    go : (b : Bool) → withReply (if b then says (take (h .reply .len) (h .reply .bytes)) else silence) [] ≡ said b (take (h .reply .len) (h .reply .bytes))
-    go true = refl
-    go false = refl
 
 -- not more replies than meters
 pub replies-few : (hs : List hearing.Heard) → length (replies hs) ≤ length hs
@@ -100,42 +100,55 @@ module _ {f : PlainMeter → hearing.Heard} {t₀ : Segment} where
       let ps = map plainMeter (t₀ .meters) in
       omega (arith, s .joins .count, replies-few (map f (take i ps)), length-map (take i ps) f, length-take i ps)
 
-  turn : {i : ℕ} {t : Segment} {kept kept′ : Joining} {bytes bytes′ : List ℕ} (h : Heard) (d : Meter) → Sweeping f t₀ i t kept bytes → i < length (t₀ .meters)
-      → heardOf h ≡ f (plainMeter (getD (t .meters) i d))
-      → ((rs : List (List ℕ)) → Joins rs kept bytes → Joins (rs ++ said (h .answered) (take (h .reply .len) (h .reply .bytes))) kept′ bytes′)
-      → Sweeping f t₀ (i + 1) (keeping (set (t .meters) i (h .meter)) t) kept′ bytes′
-  turn {i} {t} {kept} {kept′} {bytes} {bytes′} h d s l e more =
+  -- the next meter becomes n, as f has it, and its reply is joined
+  turn : {i : ℕ} {t : Segment} {kept kept′ : Joining} {bytes bytes′ : List ℕ} (n d : Meter) → Sweeping f t₀ i t kept bytes → i < length (t₀ .meters)
+      → plainMeter n ≡ f (plainMeter (getD (t .meters) i d)) .meter
+      → ((rs : List (List ℕ)) → Joins rs kept bytes → Joins (rs ++ replies (f (plainMeter (getD (t .meters) i d)) ∷ [])) kept′ bytes′)
+      → Sweeping f t₀ (i + 1) (keeping (set (t .meters) i n) t) kept′ bytes′
+  turn {i} {t} {kept} {kept′} {bytes} {bytes′} n d s l e more =
       let ps = map plainMeter (t₀ .meters) in
       let g : PlainMeter → PlainMeter = λ p. f p .meter in
       let z = plainMeter d in
       let b : i < length ps = omega (arith, length-map (t₀ .meters) plainMeter) in
       let q : plainMeter (getD (t .meters) i d) ≡ getD ps i z =
       sym (List·getD-map plainMeter (t .meters) i d) ∙ ap (λ xs. getD xs i z) (s .meters) ∙ getD-swept g ps i z b in
-      let v : heardOf h ≡ f (getD ps i z) = e ∙ ap f q in
-      let n : replies (map f (take (i + 1) ps)) ≡ replies (map f (take i ps)) ++ said (h .answered) (take (h .reply .len) (h .reply .bytes)) =
+      let r : replies (map f (take (i + 1) ps)) ≡ replies (map f (take i ps)) ++ replies (f (plainMeter (getD (t .meters) i d)) ∷ []) =
       ap (λ k. replies (map f (take k ps))) (add-one i)
       ∙ ap (λ xs. replies (map f xs)) (take-suc ps i z b)
       ∙ ap replies (map-append f (take i ps) (getD ps i z ∷ []))
       ∙ replies-append (map f (take i ps)) (f (getD ps i z) ∷ [])
-      ∙ ap (λ x. replies (map f (take i ps)) ++ replies (x ∷ [])) (sym v)
-      ∙ ap (λ x. replies (map f (take i ps)) ++ x) (said-is h) in
+      ∙ ap (λ x. replies (map f (take i ps)) ++ replies (f x ∷ [])) (sym q) in
       record {
         same = s .same;
         meters =
-            map-set plainMeter (t .meters) i (h .meter)
-            ∙ ap₂ (λ xs x. set xs i x) (s .meters) (ap (λ x. x .meter) v)
+            map-set plainMeter (t .meters) i n
+            ∙ ap₂ (λ xs x. set xs i x) (s .meters) (e ∙ ap g q)
             ∙ set-swept g ps i z b
             ∙ ap (λ k. swept g k ps) (sym (add-one i));
-        joins = subst (λ rs. Joins rs kept′ bytes′) (sym n) (more (replies (map f (take i ps))) (s .joins));
+        joins = subst (λ rs. Joins rs kept′ bytes′) (sym r) (more (replies (map f (take i ps))) (s .joins));
       }
 
-  -- the meter at i hears at the baud that the bus still has; g b is what hearing at a baud b gives
-  pub sweeping-more : {i : ℕ} {t : Segment} {kept kept′ : Joining} {bytes bytes′ : List ℕ} (g : ℕ → PlainMeter → hearing.Heard) (h : Heard) (d : Meter) → Sweeping f t₀ i t kept bytes → f ≡ g (t₀ .baud)
-      → i < length (t₀ .meters) → heardOf h ≡ g (t .baud) (plainMeter (getD (t .meters) i d))
-      → ((rs : List (List ℕ)) → Joins rs kept bytes → Joins (rs ++ said (h .answered) (take (h .reply .len) (h .reply .bytes))) kept′ bytes′)
-      → Sweeping f t₀ (i + 1) (keeping (set (t .meters) i (h .meter)) t) kept′ bytes′
-  sweeping-more {i} {t} g h d s u l e more =
-      turn h d s l (e ∙ ap (λ x. g (x .baud) (plainMeter (getD (t .meters) i d))) (s .same) ∙ ap (λ x. x (plainMeter (getD (t .meters) i d))) (sym u)) more
+  -- g b is what hearing at a baud b gives; the bus still has its baud
+  module _ {i : ℕ} {t : Segment} {kept : Joining} {bytes : List ℕ} (g : ℕ → PlainMeter → hearing.Heard) (d : Meter) (s : Sweeping f t₀ i t kept bytes) (u : f ≡ g (t₀ .baud)) (l : i < length (t₀ .meters)) where
+    same-way : (p : PlainMeter) → f p ≡ g (t .baud) p
+    same-way p = ap (λ x. x p) u ∙ ap (λ x. g (x .baud) p) (sym (s .same))
+
+    -- the meter at i takes its step
+    pub sweeping-more : {kept′ : Joining} {bytes′ : List ℕ} {r : Stepped} → Steps (g (t .baud) (plainMeter (getD (t .meters) i d))) kept bytes r bytes′ → r .kept ≡ kept′
+        → Sweeping f t₀ (i + 1) (keeping (set (t .meters) i (r .meter)) t) kept′ bytes′
+    sweeping-more {kept′} {bytes′} {r} st w =
+        let p = plainMeter (getD (t .meters) i d) in
+        turn (r .meter) d s l (st .meter ∙ ap (λ x. x .meter) (sym (same-way p)))
+        (λ rs j. subst (λ k. Joins (rs ++ replies (f p ∷ [])) k bytes′) w (subst (λ h. Joins (rs ++ replies (h ∷ [])) (r .kept) bytes′) (sym (same-way p)) (st .joins rs j)))
+
+    -- the telegram does not concern the meter at i
+    pub sweeping-past : g (t .baud) (plainMeter (getD (t .meters) i d)) ≡ hearing.quiet (plainMeter (getD (t .meters) i d)) → Sweeping f t₀ (i + 1) t kept bytes
+    sweeping-past q =
+        let p = plainMeter (getD (t .meters) i d) in
+        let v : f p ≡ hearing.quiet p = same-way p ∙ q in
+        subst (λ ms. Sweeping f t₀ (i + 1) (keeping ms t) kept bytes) (set-same (t .meters) i d)
+        (turn (getD (t .meters) i d) d s l (ap (λ x. x .meter) (sym v))
+        (λ rs j. subst (λ h. Joins (rs ++ replies (h ∷ [])) kept bytes) (sym v) (subst (λ x. Joins x kept bytes) (sym (append-nil rs)) j)))
 
   pub sweeping-all : {i : ℕ} {t : Segment} {kept : Joining} {bytes : List ℕ} → Sweeping f t₀ i t kept bytes → i ≡ min (t₀ .count) (length (t₀ .meters))
       → Swept f t₀ t kept bytes

@@ -1,13 +1,14 @@
 -- Opening, send, receive, clear and baud change: 01's number (0: accepted), what is handed out, and the segment afterwards.
-use mathlib.Core.Bool.{Bool, _&&_, not}
+use mathlib.Core.Bool.{Bool, not}
 use mathlib.Core.List.{List, [], _++_}
 use Prim.Native.Nat.{ℕ, min}
 use lib.Ieee.{Float}
-use lib.Dec.{leb, ltb}
+use lib.Dec.{ltb}
 use lib.ListN.{length, take, drop}
 use Rattle.laws.specs.Words.{if_then_else_}
-use Rattle.meter.specs.declared.Clock.{Clock}
-use Rattle.meter.specs.Hear.{rates}
+use Rattle.clock.specs.declared.Clock.{Clock}
+use Rattle.clock.specs.Fields.{goodClock}
+use Rattle.meter.specs.Meter.{rates}
 use Rattle.scenarios.specs.Tables.{isRate}
 use Rattle.scenarios.specs.Opening.{opens, refuses, refusesRecord, openList}
 use Rattle.bus.specs.Plain.{Plain}
@@ -25,19 +26,6 @@ afterOpening list bus practice origin former =
     ]
 
 -- ---- send
-
--- from low to high, both ends included
-abbrev pub within : ℕ → ℕ → ℕ → Bool
-within low high x = leb low x && leb x high
-
--- the clock: year 1970..9999, month 1..12, day 1..31, hour 0..23, minute 0..59
-unfoldable pub goodClock : Clock → Bool
-goodClock k =
-    within 1970 9999 (k .year)
-    && within 1 12 (k .month)
-    && within 1 31 (k .day)
-    && within 0 23 (k .hour)
-    && within 0 59 (k .minute)
 
 pub record Done : Type 0 where
   pub number : ℕ

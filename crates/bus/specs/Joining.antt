@@ -1,7 +1,7 @@
 -- What the program keeps of the replies that it has joined so far.
 use mathlib.Core.Path.{_≡_}
 use mathlib.Core.Bool.{Bool}
-use mathlib.Core.List.{List, [], _∷_}
+use mathlib.Core.List.{List}
 use Prim.Native.Nat.{ℕ, _≤_, _<_}
 use lib.Bits.{bitAnd}
 use lib.ListN.{length, take, getD, replicate}
@@ -29,10 +29,6 @@ lengthKept j = if j .acks then j .count else j .len
 
 abbrev pub bytesKept : Joining → List ℕ → List ℕ
 bytesKept j bytes = if j .acks then replicate (j .count) 0xE5 else take (j .len) bytes
-
--- the reply of a meter that gave one
-abbrev pub said : Bool → List ℕ → List (List ℕ)
-said answered r = if answered then r ∷ [] else []
 
 -- the bytes of new up to a place are those of old and of a reply joined by AND, the others those of old
 pub record Overlays (old reply : List ℕ) (i : ℕ) (new : List ℕ) : Type 0 where

@@ -1,5 +1,5 @@
 pub mod Calls
-pub mod Gives
+pub mod Step
 pub mod Joining
 pub mod Plain
 pub mod Steps

@@ -7,8 +7,8 @@ use lib.ListN.{length, drop}
 use Rattle.laws.specs.Words.{if_then_else_}
 use Rattle.frame.specs.Frame.{Telegram, ack, short, long, complete, incomplete, invalid, parse}
 use Rattle.seconds.specs.Seconds.{elapsedOf}
-use Rattle.meter.specs.declared.Clock.{Clock}
-use Rattle.meter.specs.Hear.{Reply, silence, says, Heard, hear}
+use Rattle.clock.specs.declared.Clock.{Clock}
+use Rattle.hear.specs.Hear.{Reply, silence, says, Heard, hear}
 use Rattle.bus.specs.Plain.{Plain, joined}
 
 -- the replies of those that gave one, in list order

@@ -1,12 +1,13 @@
 // Replies to one telegram, joined one after the other.
 ghost use mathlib.Core.Path.{_≡_};
-ghost use mathlib.Core.List.{List, _++_};
+ghost use mathlib.Core.List.{List, [], _∷_, _++_};
 ghost use Prim.Native.Nat.{ℕ, _+_, _≤_, _<_, max};
 ghost use lib.ListN.{length, take, replicate};
 ghost use Rattle.bus.specs.Plain.{isE5};
-ghost use Rattle.bus.specs.Joining.{Joins, Overlays, said, replyMost, lengthKept, bytesKept};
+ghost use Rattle.hear.specs.Hear.{E5};
+ghost use Rattle.bus.specs.Joining.{Joins, Overlays, replyMost, lengthKept, bytesKept};
 use crate::queue;
-use meter::Reply;
+use readout::Reply;
 
 // As many bytes as a meter's reply can have.
 pub(crate) const REPLY: usize = 96;
@@ -52,14 +53,24 @@ fn overlay(joined: &mut [u8; REPLY], reply: Reply, len: usize)
     }
 }
 
-// One meter's reply, if it gave one, joins those before it.
-pub(crate) fn join(joined: &mut [u8; REPLY], kept: Joining, answered: bool, reply: Reply) -> Joining
+// One E5 joins the replies before it.
+pub(crate) fn join_ack(joined: &mut [u8; REPLY], kept: Joining) -> Joining
     requires { ⌜ (kept .count < 4096) × (length (now joined) ≡ replyMost) ⌝ }
-    ensures { λ r. ⌜ ((rs : List (List ℕ)) → Joins rs kept (now (joined .entry)) → Joins (rs ++ said answered (take (reply .len) (reply .bytes))) r (now (joined .exit))) ⌝ }
+    ensures { λ r. ⌜ ((rs : List (List ℕ)) → Joins rs kept (now (joined .entry)) → Joins (rs ++ E5 ∷ []) r (now (joined .exit))) ⌝ }
 {
-    if !answered {
-        return kept;
+    joined[0] = joined[0] & frame::ACK;
+    Joining {
+        count: kept.count + 1,
+        acks: kept.acks,
+        len: most(kept.len, 1),
     }
+}
+
+// A readout joins the replies before it.
+pub(crate) fn join(joined: &mut [u8; REPLY], kept: Joining, reply: Reply) -> Joining
+    requires { ⌜ (kept .count < 4096) × (length (now joined) ≡ replyMost) ⌝ }
+    ensures { λ r. ⌜ ((rs : List (List ℕ)) → Joins rs kept (now (joined .entry)) → Joins (rs ++ take (reply .len) (reply .bytes) ∷ []) r (now (joined .exit))) ⌝ }
+{
     let len = queue::least(reply.len, REPLY);
     overlay(joined, reply, len);
     Joining {
@@ -82,7 +93,7 @@ pub(crate) fn length_of(kept: Joining) -> usize
 // The joined reply, behind the first `queued` bytes of the queue.
 pub(crate) fn put(queue: &mut [u8; queue::QUEUE], queued: usize, joined: [u8; REPLY], kept: Joining)
     requires { ⌜ (queued + lengthKept kept ≤ 4096) × (length (now queue) ≡ 4096) × (kept .len ≤ replyMost) ⌝ }
-    ensures { λ r. ⌜ take (queued + lengthKept kept) (now (queue .exit)) ≡ take queued (now (queue .entry)) ++ bytesKept kept joined ⌝ }
+    ensures { λ r. ⌜ (take (queued + lengthKept kept) (now (queue .exit)) ≡ take queued (now (queue .entry)) ++ bytesKept kept joined) × (length (now (queue .exit)) ≡ 4096) ⌝ }
 {
     if kept.acks {
         queue::append_acks(queue, queued, kept.count);

@@ -2,9 +2,9 @@
 ghost use mathlib.Core.Path.{_≡_};
 ghost use Rattle.bus.specs.Plain.{blank};
 ghost use Rattle.bus.specs.Calls;
-ghost use Rattle.bus.specs.Calls.{within, goodClock};
 ghost use Rattle.bus.specs.View.{plainOf, receivedOf, sentOf, changedOf, Opens};
-use meter::Clock;
+use clock::Clock;
+use clock::good_clock;
 use meter::Meter;
 use scenarios::Refusal;
 
@@ -126,18 +126,7 @@ pub fn send(segment: Segment, piece: &[u8], clock: Clock) -> Sent
     let input = segment.input;
     let bytes = line::line_of(input, waiting, piece);
     let end = waiting + piece.len();
-    let done = settle::settle(segment, &bytes[..end], clock);
-    if done.full {
-        return Sent {
-            answer: Sending::QueueFull,
-            segment: segment,
-        };
-    }
-    let after = done.segment;
-    Sent {
-        answer: Sending::Accepted,
-        segment: after,
-    }
+    settle::settle(segment, &bytes[..end], clock)
 }
 
 pub struct Received {
@@ -198,26 +187,4 @@ pub fn set_baud(segment: Segment, baud: u32) -> Changed
         answer: Changing::Accepted,
         segment: t,
     }
-}
-
-// Both ends are within.
-fn is_within(low: u32, high: u32, x: u32) -> bool
-    ensures { λ r. ⌜ r ≡ within low high x ⌝ }
-{
-    if x < low {
-        return false;
-    }
-    x <= high
-}
-
-// A clock with every field in range: year 1970..9999, month 1..12, day 1..31, hour 0..23, minute 0..59.
-pub fn good_clock(clock: Clock) -> bool
-    ensures { λ r. ⌜ r ≡ goodClock clock ⌝ }
-{
-    let year = is_within(1970, 9999, clock.year);
-    let month = is_within(1, 12, clock.month);
-    let day = is_within(1, 31, clock.day);
-    let hour = is_within(0, 23, clock.hour);
-    let minute = is_within(0, 59, clock.minute);
-    year & month & day & hour & minute
 }

@@ -16,7 +16,7 @@ pub(crate) fn least(a: usize, b: usize) -> usize
 // Some bytes behind the first `queued` ones.
 pub(crate) fn append(queue: &mut [u8; QUEUE], queued: usize, bytes: &[u8])
     requires { ⌜ (queued + length (now bytes) ≤ 4096) × (length (now queue) ≡ 4096) ⌝ }
-    ensures { λ r. ⌜ take (queued + length (now (bytes .entry))) (now (queue .exit)) ≡ take queued (now (queue .entry)) ++ now (bytes .entry) ⌝ }
+    ensures { λ r. ⌜ (take (queued + length (now (bytes .entry))) (now (queue .exit)) ≡ take queued (now (queue .entry)) ++ now (bytes .entry)) × (length (now (queue .exit)) ≡ 4096) ⌝ }
 {
     let mut j: usize = 0;
     while j < bytes.len() {
@@ -28,7 +28,7 @@ pub(crate) fn append(queue: &mut [u8; QUEUE], queued: usize, bytes: &[u8])
 // As many E5 behind the first `queued` bytes.
 pub(crate) fn append_acks(queue: &mut [u8; QUEUE], queued: usize, n: usize)
     requires { ⌜ (queued + n ≤ 4096) × (length (now queue) ≡ 4096) ⌝ }
-    ensures { λ r. ⌜ take (queued + n) (now (queue .exit)) ≡ take queued (now (queue .entry)) ++ replicate n 0xE5 ⌝ }
+    ensures { λ r. ⌜ (take (queued + n) (now (queue .exit)) ≡ take queued (now (queue .entry)) ++ replicate n 0xE5) × (length (now (queue .exit)) ≡ 4096) ⌝ }
 {
     let mut j: usize = 0;
     while j < n {

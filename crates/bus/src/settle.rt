@@ -1,27 +1,31 @@
 // Send: telegrams out of the waiting input and the piece, handled one after the other.
 ghost use mathlib.Core.Path.{_≡_};
 ghost use mathlib.Core.List.{List};
-ghost use Prim.Native.Nat.{ℕ};
+ghost use Prim.Native.Nat.{ℕ, _<_};
 ghost use lib.Dec.{eqb};
+ghost use lib.ListN.{length};
 ghost use Rattle.frame.specs.View.{telegramOf};
-ghost use Rattle.bus.specs.Steps.{toAll, handled, settled, withInput};
-ghost use Rattle.bus.specs.View.{plainOf};
-ghost use Rattle.bus.specs.Gives.{Gives};
+ghost use Rattle.bus.specs.Steps.{toAll, settled, withInput};
+ghost use Rattle.meter.specs.View.{plainMeter};
+ghost use Rattle.hear.specs.Hear.{hear};
+ghost use Rattle.bus.specs.Calls.{fitsQueue};
+ghost use Rattle.bus.specs.Joining.{replyMost};
+ghost use Rattle.bus.specs.Step.{Steps};
+ghost use Rattle.bus.specs.View.{plainOf, sentOf};
 use crate::METERS;
 use crate::Segment;
+use crate::Sending;
+use crate::Sent;
 use crate::join;
 use crate::join::Joining;
 use crate::line;
 use crate::queue;
+use clock::Clock;
 use frame::Frame;
 use frame::Outcome;
-use meter::Clock;
-
-// What came of a telegram, or of several: the queue would pass 4,096 bytes, or the segment afterwards.
-pub struct Handled {
-    pub full: bool,
-    pub segment: Segment,
-}
+use hear::Answer;
+use hear::telegrams::concerns;
+use meter::Meter;
 
 fn is_broadcast(address: u8) -> bool
     ensures { λ r. ⌜ r ≡ eqb address 0xFF ⌝ }
@@ -47,54 +51,49 @@ fn to_all(frame: Frame) -> bool
     }
 }
 
-// Every meter hears a telegram, and their replies join the queue.
-fn handle(segment: Segment, frame: Frame, data: &[u8], clock: Clock) -> Handled
-    ensures { λ r. ⌜ Gives (handled (telegramOf frame (now («data» .entry))) clock (plainOf segment .input) (plainOf segment)) r ⌝ }
+// A meter after a telegram, and what is kept of the replies with its own.
+pub struct Stepped {
+    pub meter: Meter,
+    pub kept: Joining,
+}
+
+// One meter hears a telegram, and its reply joins those before it.
+fn step(
+    joined: &mut [u8; join::REPLY],
+    kept: Joining,
+    m: Meter,
+    bus: u32,
+    frame: Frame,
+    data: &[u8],
+    elapsed: f64,
+    clock: Clock,
+) -> Stepped
+    requires { ⌜ (kept .count < 4096) × (length (now joined) ≡ replyMost) ⌝ }
+    ensures { λ r. ⌜ Steps (hear bus (telegramOf frame (now («data» .entry))) elapsed clock (plainMeter m)) kept (now (joined .entry)) r (now (joined .exit)) ⌝ }
 {
-    let mut t = segment;
-    let elapsed = seconds::elapsed(clock.now, t.origin);
-    let mut joined = join::nothing();
-    let mut kept = Joining {
-        count: 0,
-        acks: true,
-        len: 0,
-    };
-    let end = queue::least(t.count, METERS);
-    let mut i: usize = 0;
-    while i < end {
-        let m = t.meters[i];
-        let h = meter::hear(m, t.baud, frame, data, elapsed, clock);
-        let k = h.meter;
-        let reply = h.reply;
-        t.meters[i] = k;
-        kept = join::join(&mut joined, kept, h.answered, reply);
-        i += 1;
-    }
-    if to_all(frame) {
-        return Handled {
-            full: false,
-            segment: t,
-        };
-    }
-    let queued = queue::least(t.queued, queue::QUEUE);
-    let n = join::length_of(kept);
-    if queue::QUEUE - queued < n {
-        return Handled {
-            full: true,
-            segment: t,
-        };
-    }
-    join::put(&mut t.queue, queued, joined, kept);
-    t.queued = queued + n;
-    Handled {
-        full: false,
-        segment: t,
+    let h = hear::hear(m, bus, frame, data);
+    let n = h.meter;
+    let answer = h.answer;
+    match answer {
+        Answer::Silent => Stepped {
+            meter: n,
+            kept: kept,
+        },
+        Answer::Ack => Stepped {
+            meter: n,
+            kept: join::join_ack(joined, kept),
+        },
+        Answer::Readout => Stepped {
+            meter: n,
+            kept: join::join(joined, kept, readout::readout(n, elapsed, clock)),
+        },
     }
 }
 
-// Complete telegrams are handled in turn; an incomplete one waits; an invalid one discards all remaining input.
-pub(crate) fn settle(segment: Segment, bytes: &[u8], clock: Clock) -> Handled
-    ensures { λ r. ⌜ Gives (settled clock (withInput (now (bytes .entry)) (plainOf segment))) r ⌝ }
+// Complete telegrams are handled in turn: every meter that one concerns hears it, and the replies join the queue. An incomplete
+// telegram waits; an invalid one discards all remaining input. One function holds both loops, so that the segment is copied once.
+pub(crate) fn settle(segment: Segment, bytes: &[u8], clock: Clock) -> Sent
+    ensures { λ r. ⌜ sentOf r ≡ fitsQueue (plainOf segment) (settled clock (withInput (now (bytes .entry)) (plainOf segment))) ⌝ }
 {
     let mut t = segment;
     let mut pos: usize = 0;
@@ -102,26 +101,55 @@ pub(crate) fn settle(segment: Segment, bytes: &[u8], clock: Clock) -> Handled
         let rest = &bytes[pos..];
         match frame::parse(rest) {
             Outcome::Complete { frame, len, used } => {
-                let h = handle(t, frame, frame::data_of(rest, len), clock);
-                if h.full {
-                    return h;
+                let data = frame::data_of(rest, len);
+                let elapsed = seconds::elapsed(clock.now, t.origin);
+                let end = queue::least(t.count, METERS);
+                let mut joined = join::nothing();
+                let mut kept = Joining {
+                    count: 0,
+                    acks: true,
+                    len: 0,
+                };
+                let mut i: usize = 0;
+                while i < end {
+                    let primary = t.meters[i].primary;
+                    let selected = t.meters[i].selected;
+                    let id = t.meters[i].id;
+                    if concerns(frame, data, primary, selected, id) {
+                        let m = t.meters[i];
+                        let w = step(&mut joined, kept, m, t.baud, frame, data, elapsed, clock);
+                        let k = w.meter;
+                        t.meters[i] = k;
+                        kept = w.kept;
+                    }
+                    i += 1;
                 }
-                let u = h.segment;
-                t = u;
+                if !to_all(frame) {
+                    let queued = queue::least(t.queued, queue::QUEUE);
+                    let n = join::length_of(kept);
+                    if queue::QUEUE - queued < n {
+                        return Sent {
+                            answer: Sending::QueueFull,
+                            segment: segment,
+                        };
+                    }
+                    join::put(&mut t.queue, queued, joined, kept);
+                    t.queued = queued + n;
+                }
                 pos += used;
             }
             Outcome::Incomplete => {
                 line::keep(&mut t.input, rest);
                 t.waiting = rest.len();
-                return Handled {
-                    full: false,
+                return Sent {
+                    answer: Sending::Accepted,
                     segment: t,
                 };
             }
             Outcome::Invalid(_) => {
                 t.waiting = 0;
-                return Handled {
-                    full: false,
+                return Sent {
+                    answer: Sending::Accepted,
                     segment: t,
                 };
             }

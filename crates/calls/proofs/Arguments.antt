@@ -26,9 +26,9 @@ use denote.Shadow.{shadow}
 use denote.Struct.Laws as structs
 use types.SemTy.{cells}
 use Rattle.laws.specs.Words.{Every}
-use Rattle.meter.specs.declared.Clock.{Clock}
-use Rattle.meter.proofs.Clock as clock
-use Rattle.meter.proofs.Clock.Laws as clock-laws
+use Rattle.clock.specs.declared.Clock.{Clock}
+use Rattle.clock.proofs.Clock as clock
+use Rattle.clock.proofs.Clock.Laws as clock-laws
 use Rattle.bus.specs.declared.Segment.{Segment}
 use Rattle.bus.proofs.Segment as segment
 use Rattle.bus.proofs.Segment.Laws as segment-laws

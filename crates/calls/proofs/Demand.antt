@@ -19,7 +19,7 @@ use contract.Adequate.{Satisfies, start-satisfies}
 use contract.BorrowModel.{ghost₀}
 use ghost.Model as Closed
 use Rattle.laws.specs.Words.{Every}
-use Rattle.meter.specs.declared.Clock.{Clock}
+use Rattle.clock.specs.declared.Clock.{Clock}
 use Rattle.bus.specs.declared.Segment.{Segment}
 use Rattle.bus.specs.Plain.{Plain, blank}
 use Rattle.bus.specs.View.{plainOf}

@@ -23,9 +23,9 @@ use denote.Memory.{mem}
 use denote.Slice.{finally}
 use denote.Struct.Laws.{makes, lawful}
 use types.SemTy.{cells}
-use Rattle.meter.specs.declared.Clock.{Clock}
-use Rattle.meter.proofs.Clock as clock
-use Rattle.meter.proofs.Clock.Laws as clock-laws
+use Rattle.clock.specs.declared.Clock.{Clock}
+use Rattle.clock.proofs.Clock as clock
+use Rattle.clock.proofs.Clock.Laws as clock-laws
 use Rattle.bus.specs.declared.Segment.{Segment}
 use Rattle.bus.specs.View.{plainOf}
 use Rattle.bus.proofs.Segment.Laws as segment-laws

@@ -17,9 +17,9 @@ use contract.Running.{Running, GhostRules}
 use contract.Adequate.{Satisfies}
 use ghost.Atoms.{sem}
 use denote.Builtin.{u8}
-use Rattle.meter.specs.declared.Clock.{Clock}
-use Rattle.meter.proofs.Clock as clock
-use Rattle.meter.proofs.Clock.Laws as clock-laws
+use Rattle.clock.specs.declared.Clock.{Clock}
+use Rattle.clock.proofs.Clock as clock
+use Rattle.clock.proofs.Clock.Laws as clock-laws
 use Rattle.bus.specs.declared.Segment.{Segment}
 use Rattle.bus.specs.declared.Sent.{Sent}
 use Rattle.bus.specs.Calls.{send}

@@ -14,7 +14,7 @@ use prog.Model.{Model}
 use prog.Routine.{ends-one}
 use contract.Running.{Running, GhostRules}
 use contract.Adequate.{Satisfies}
-use Rattle.meter.proofs.Clock.Laws.{lowered as clock-value}
+use Rattle.clock.proofs.Clock.Laws.{lowered as clock-value}
 use Rattle.bus.specs.declared.Segment.{Segment}
 use Rattle.bus.specs.Calls as plain
 use Rattle.bus.specs.View.{plainOf}

@@ -10,7 +10,7 @@ use prog.AdequacyRun.{startMem}
 use prog.Memory.{Memory}
 use prog.Routine.{ends}
 use Rattle.laws.specs.Words.{Every}
-use Rattle.meter.specs.declared.Clock.{Clock}
+use Rattle.clock.specs.declared.Clock.{Clock}
 use Rattle.bus.specs.Plain.{Plain, blank}
 use Rattle.bus.proofs.Segment.new.Symbol.{routine as new-routine}
 use Rattle.search.specs.declared.EntryRecord.{EntryRecord}

@@ -6,7 +6,7 @@ use Prim.Native.Nat.{ℕ, _<_, _*_, _^_}
 use lib.Ieee.{Float, binary64, fits}
 use lib.ListN.{length}
 use Rattle.laws.specs.Words.{Every}
-use Rattle.meter.specs.declared.Clock.{Clock}
+use Rattle.clock.specs.declared.Clock.{Clock}
 use Rattle.search.specs.declared.EntryRecord.{EntryRecord}
 use Rattle.search.specs.Call.{Call, opening, sending, receiving, clearing, changing, searching}
 

@@ -11,7 +11,7 @@ use mir.Fields.{getV}
 use prog.Memory.{Memory}
 use prog.Routine.{ends}
 use denote.Slice.{sliceVal}
-use Rattle.meter.proofs.Clock.Laws.{lowered as clock-value}
+use Rattle.clock.proofs.Clock.Laws.{lowered as clock-value}
 use Rattle.bus.proofs.open.Symbol.{routine as open-routine}
 use Rattle.bus.proofs.send.Symbol.{routine as send-routine}
 use Rattle.bus.proofs.receive.Symbol.{routine as receive-routine}

@@ -10,8 +10,8 @@ use lib.ListN.{length, drop, length-append}
 use borrow.Author.Tests.{ltb-false}
 use Rattle.laws.specs.Words.{if_then_else_, at}
 use Rattle.laws.proofs.Lists.{if-all, if-with}
-use Rattle.meter.specs.declared.Clock.{Clock}
-use Rattle.meter.specs.Hear.{rates}
+use Rattle.clock.specs.declared.Clock.{Clock}
+use Rattle.meter.specs.Meter.{rates}
 use Rattle.scenarios.specs.Tables.{isRate}
 use Rattle.scenarios.specs.Layout.{Listed, Layout, fits, noFit, readRecords}
 use Rattle.scenarios.specs.Check.{allPass}
@@ -25,7 +25,8 @@ use Rattle.scenarios.specs.declared.Failing.the-variants.{BadPrimary, BadId, Ba
 use Rattle.bus.specs.Plain.{Plain}
 use Rattle.bus.specs.Steps.{withInput, settled}
 use Rattle.bus.specs.Calls as calls
-use Rattle.bus.specs.Calls.{Done, afterOpening, goodClock}
+use Rattle.bus.specs.Calls.{Done, afterOpening}
+use Rattle.clock.specs.Fields.{goodClock}
 use Rattle.image.specs.Image.{imaged}
 use Rattle.jezynar.specs.Answers.{doneBy, receivedBy, Answers}
 

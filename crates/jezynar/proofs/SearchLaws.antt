@@ -11,9 +11,9 @@ use lib.Seq.{paste, take-at, take-suc, drop-drop, drop-append-add, length-take-l
 use Rattle.laws.proofs.Lists.{if-all}
 use Rattle.laws.specs.Words.{at}
 use Rattle.values.specs.Values.{little}
-use Rattle.meter.specs.declared.Clock.{Clock}
+use Rattle.clock.specs.declared.Clock.{Clock}
 use Rattle.bus.specs.Plain.{Plain}
-use Rattle.bus.specs.Calls.{goodClock}
+use Rattle.clock.specs.Fields.{goodClock}
 use Rattle.bus.specs.View.{plainOf}
 use Rattle.bus.specs.declared.Segment.{Segment}
 use Rattle.search.specs.declared.EntryRecord.{EntryRecord}

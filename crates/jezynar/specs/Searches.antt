@@ -6,7 +6,7 @@ use Prim.Native.Nat.{ℕ, _*_, _/_, _<_}
 use lib.ListN.{length, take, drop, replicate}
 use Rattle.laws.specs.Words.{if_then_else_, at}
 use Rattle.values.specs.Values.{little}
-use Rattle.meter.specs.declared.Clock.{Clock}
+use Rattle.clock.specs.declared.Clock.{Clock}
 use Rattle.search.specs.declared.Kind.{Kind}
 use Rattle.search.specs.declared.Kind.the-variants.{One, Mute, Many}
 use Rattle.search.specs.declared.EntryRecord.{EntryRecord}

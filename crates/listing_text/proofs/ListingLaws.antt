@@ -9,11 +9,12 @@ use lib.Ieee.{Float, fin}
 use lib.ListN.{length, take, drop, length-replicate}
 use lib.Seq.{take-at, length-take-le}
 use borrow.Author.Tests.{eq-eqb, ne-eqb, le-ltb}
-use Rattle.meter.specs.declared.Clock.{Clock}
+use Rattle.clock.specs.declared.Clock.{Clock}
 use Rattle.scenarios.specs.Opening.{Opened, opens, refuses, refusesRecord, OpeningGives, openList, capacity}
 use Rattle.scenarios.proofs.OpeningLaws.{OpensWell, openList-well}
 use Rattle.bus.specs.Plain.{Plain, blank}
-use Rattle.bus.specs.Calls.{afterOpening, goodClock}
+use Rattle.bus.specs.Calls.{afterOpening}
+use Rattle.clock.specs.Fields.{goodClock}
 use Rattle.bus.specs.View.{plainOf, Opens}
 use Rattle.bus.specs.declared.Opened.{Opened as Opening}
 use Rattle.bus.specs.declared.Segment.{Segment}

@@ -7,15 +7,17 @@ use Rattle.frame.specs.Frame.{sum, encode, parseShort, parseBody, parseLong, pa
 use Rattle.values.specs.Values.{little, bcd, typeG, typeF, makerCode, idBytes, nibbles, decimal}
 use Rattle.seconds.specs.Seconds.{whole, notBelow0, elapsedOf}
 use Rattle.meter.specs.Meter.{hears, put, alike, matches, asked}
-use Rattle.meter.specs.Response.{fixedData, head, clockF, heatFirst, heatSecond, electricity, water, userData, response, damaged, readout}
-use Rattle.meter.specs.Hear.{rates, target, nke, request, select, commanded, listens, hear}
+use Rattle.readout.specs.Response.{fixedData, head, clockF, heatFirst, heatSecond, electricity, water, userData, response, damaged, readout}
+use Rattle.hear.specs.Hear.{target, nke, request, select, commanded, listens, hear}
+use Rattle.meter.specs.Meter.{rates}
 use Rattle.scenarios.specs.Tables.{media, faults}
 use Rattle.scenarios.specs.Layout.{readTexts, readRecords}
 use Rattle.scenarios.specs.Check.{goodId, goodMaker, check}
 use Rattle.scenarios.specs.Opening.{capacity, ownBaud, seedOf, fresh, openRecords, openList}
 use Rattle.bus.specs.Plain.{blank, joined}
 use Rattle.bus.specs.Steps.{heardBy, handled, steps, settled}
-use Rattle.bus.specs.Calls.{afterOpening, goodClock, send}
+use Rattle.bus.specs.Calls.{afterOpening, send}
+use Rattle.clock.specs.Fields.{goodClock}
 use Rattle.search.specs.Walk.{maskDigits, mask, reading, ask, probe, good, idOf, entryOf, read, ten, walk, wholeWalk, searchCall}
 use Rattle.listing_text.specs.Text.{inDecimal, number, line, firstLine, reportOf, refusalOf}
 use Rattle.listing_text.specs.Listing.{listedSegment, listingClock, lentRecords, listIn, listedSearch, listingText, ListingGives}

@@ -8,7 +8,7 @@ use lib.Ieee.{fin}
 use lib.Dec.{eqb}
 use lib.ListN.{take, replicate}
 use Rattle.laws.specs.Words.{if_then_else_}
-use Rattle.meter.specs.declared.Clock.{Clock}
+use Rattle.clock.specs.declared.Clock.{Clock}
 use Rattle.scenarios.specs.Opening.{OpeningGives, openList, capacity}
 use Rattle.bus.specs.Plain.{Plain, blank}
 use Rattle.bus.specs.Calls.{afterOpening}

@@ -14,7 +14,7 @@ ghost use lib.Ieee.{fin};
 use bus::METERS;
 use bus::Opened;
 use bus::Segment;
-use meter::Clock;
+use clock::Clock;
 use search::EntryRecord;
 use search::Kind;
 

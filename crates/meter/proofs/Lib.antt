@@ -1,11 +1,1 @@
-pub mod ByteLaws
-pub mod HearLaws
-pub mod KeepLaws
 pub mod MatchLaws
-pub mod ReadoutLaws
-pub mod RecordLaws
-pub mod ReplyLaws
-pub mod SizeLaws
-pub mod Slips
-pub mod StepLaws
-pub mod Worked

@@ -14,6 +14,10 @@ use Rattle.meter.specs.declared.Model.the-variants.{Heat, Electricity, W
 use Rattle.meter.specs.declared.LastFcb.{LastFcb}
 use Rattle.meter.specs.declared.LastFcb.the-variants.{Never, Clear, Set}
 
+-- BAUD_RATES, number 0 to 7
+unfoldable pub rates : List ℕ
+rates = 300 ∷ 600 ∷ 1200 ∷ 2400 ∷ 4800 ∷ 9600 ∷ 19200 ∷ 38400 ∷ []
+
 -- ---- a meter with some parts changed
 
 -- what telegrams change stands in five groups: how it is reached, whether it is selected, where its readout stands, what is counted,
@@ -101,6 +105,10 @@ matches d m =
     && (eqb (at d 4 + at d 5 * 256) 0xFFFF || eqb (at d 4 + at d 5 * 256) (m .manufacturer))
     && (eqb (at d 6) 0xFF || eqb (at d 6) (m .version))
     && (eqb (at d 7) 0xFF || eqb (at d 7) (m .medium))
+
+-- the first of these alone: eight bytes at least, of which four match the id
+abbrev pub idMatches : List ℕ → List ℕ → Bool
+idMatches d digits = leb 8 (length d) && alike (nibbles d) digits
 
 -- ---- being asked
 

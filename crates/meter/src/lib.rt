@@ -1,21 +1,25 @@
-// A simulated meter: what it keeps, what a telegram does to it, and what it replies.
+// A simulated meter: what it keeps, and the changes of its parts.
 ghost use mathlib.Core.Path.{_≡_};
-ghost use Rattle.frame.specs.View.{telegramOf};
-ghost use Rattle.meter.specs.Hear.{hear};
-ghost use Rattle.meter.specs.View.{plainMeter, heardOf};
-use frame::Frame;
+ghost use lib.ListN.{getD};
+ghost use Rattle.meter.specs.Meter.{rates};
 
 pub mod asking; // asking.rt: a meter that is asked for its readout
 pub mod hearing; // hearing.rt: whether a telegram is heard, and the changes of a meter's parts
 pub mod matching; // matching.rt: a select's mask against a meter
-pub mod readout; // readout.rt: the bytes that a meter replies to a REQ_UD2
-mod records; // records.rt: bytes and records put behind data
-pub mod steps; // steps.rt: what each telegram does to a meter that listens
-pub mod telegrams; // telegrams.rt: which telegram it is, and whether it is for a meter
-mod userdata; // userdata.rt: the data of each model's reply
 
 // The rates that a meter can be set to, by number.
 pub const BAUD_RATES: [u32; 8] = [300, 600, 1200, 2400, 4800, 9600, 19200, 38400];
+
+// The rate of a number, 0 where there is none.
+pub fn rate_of(n: u8) -> u32
+    ensures { λ r. ⌜ r ≡ getD rates n 0 ⌝ }
+{
+    let i = n as usize;
+    if i < 8 {
+        return BAUD_RATES[i];
+    }
+    0
+}
 
 pub enum Fault {
     None,
@@ -66,58 +70,4 @@ pub struct Meter {
     pub seed: u32,
     // of a meter with Fault::Flaky: whether it hears the next telegram
     pub hearing: bool,
-}
-
-// The clock that a call is given: seconds, and the date and time of day that meters write.
-pub struct Clock {
-    pub now: f64,
-    pub year: u32,
-    pub month: u32,
-    pub day: u32,
-    pub hour: u32,
-    pub minute: u32,
-}
-
-// A reply: the first `len` bytes. The longest one has 84.
-pub struct Reply {
-    pub bytes: [u8; 96],
-    pub len: usize,
-}
-
-// A meter after a telegram, and whether it replied; if not, the reply has no meaning.
-pub struct Heard {
-    pub meter: Meter,
-    pub answered: bool,
-    pub reply: Reply,
-}
-
-// A reply's data in the making: the first `len` bytes. A telegram has nine more, so each fits a reply.
-struct Data {
-    bytes: [u8; 87],
-    len: usize,
-}
-
-// What one telegram does to one meter: only a meter at the bus's rate listens.
-pub fn hear(m: Meter, bus: u32, frame: Frame, data: &[u8], elapsed: f64, clock: Clock) -> Heard
-    ensures { λ r. ⌜ heardOf r ≡ hear bus (telegramOf frame (now («data» .entry))) elapsed clock (plainMeter m) ⌝ }
-{
-    if m.baud == bus {
-        match frame {
-            Frame::Ack => steps::quiet(m),
-            Frame::Short { control, address } => steps::hear_short(
-                m,
-                control,
-                address,
-                elapsed,
-                clock,
-            ),
-            Frame::Long {
-                control,
-                address,
-                ci,
-            } => steps::hear_long(m, control, address, ci, data),
-        }
-    } else {
-        steps::quiet(m)
-    }
 }

@@ -6,7 +6,7 @@ ghost use Prim.Native.Nat.{_+_, _*_, _/_, _%_, _≤_};
 ghost use lib.Dec.{eqb};
 ghost use lib.ListN.{length};
 ghost use Rattle.values.specs.Values.{nibbles, digitsOf};
-ghost use Rattle.meter.specs.Meter.{alike, matches};
+ghost use Rattle.meter.specs.Meter.{alike, matches, idMatches};
 ghost use Rattle.meter.specs.View.{plainMeter};
 use super::Meter;
 
@@ -81,4 +81,14 @@ pub fn matches(m: Meter, data: &[u8]) -> bool
         }
     }
     false
+}
+
+// The id alone against a select's first bytes.
+pub fn id_matches(id: u32, data: &[u8]) -> bool
+    ensures { λ r. ⌜ r ≡ idMatches (now («data» .entry)) (digitsOf id) ⌝ }
+{
+    if data.len() < 8 {
+        return false;
+    }
+    id_fits(data, id)
 }

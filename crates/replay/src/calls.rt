@@ -7,7 +7,7 @@ use crate::show;
 use bus::Changing;
 use bus::Segment;
 use bus::Sending;
-use meter::Clock;
+use clock::Clock;
 use scenarios::builtins;
 use search::Outcome;
 

@@ -2,8 +2,8 @@
 // writes what each gives. A command is a byte that names it and its arguments, each number with its highest byte first.
 // The run ends at the script's end, at a byte that names no command, and at a command that is cut off.
 use bus::Segment;
+use clock::Clock;
 use libc::STDIN_FILENO;
-use meter::Clock;
 
 mod calls; // calls.rt: each call, and its line of text
 mod print; // print.rt: numbers and bytes as text

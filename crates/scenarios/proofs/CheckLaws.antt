@@ -13,7 +13,7 @@ use Rattle.laws.specs.Words.{at}
 use Rattle.laws.specs.Sweep.{fold}
 use Rattle.laws.proofs.Lists.{and-l, and-r}
 use Rattle.laws.proofs.Sweep.{Folded, folded-none, folded-more, folded-whole}
-use Rattle.meter.specs.Hear.{rates}
+use Rattle.meter.specs.Meter.{rates}
 use Rattle.values.specs.Values.{decimal}
 use Rattle.scenarios.specs.Tables.{sameText, isRate, medium-heat-old}
 use Rattle.scenarios.specs.Check.{within, goodId, goodMaker}

@@ -7,7 +7,7 @@ use native.Mathlib.Numerals.{add-one}
 use lib.ListN.{replicate}
 use Rattle.laws.specs.Words.{if_then_else_}
 use Rattle.meter.specs.declared.Meter.{Meter}
-use Rattle.meter.specs.Hear.{rates}
+use Rattle.meter.specs.Meter.{rates}
 use Rattle.scenarios.specs.Tables.{isRate}
 use Rattle.scenarios.specs.Given.{rated}
 use Rattle.scenarios.specs.Reading.{listedOf, stepAt, atOf}

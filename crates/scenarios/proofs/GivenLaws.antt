@@ -10,7 +10,7 @@ use lib.ListN.{length, take, drop, length-map, length-replicate}
 use borrow.Author.Tests.{lt-ltb, le-ltb}
 use Rattle.laws.specs.Words.{if_then_else_, at}
 use Rattle.laws.specs.Sweep.{fold}
-use Rattle.meter.specs.Hear.{rates}
+use Rattle.meter.specs.Meter.{rates}
 use Rattle.meter.specs.View.{plainMeter}
 use Rattle.scenarios.specs.Tables.{isRate}
 use Rattle.scenarios.specs.Layout.{Listed, Layout, fits, noFit, readRecords}

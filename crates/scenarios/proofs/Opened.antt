@@ -4,7 +4,7 @@ use mathlib.Core.Bool.{false}
 use mathlib.Core.List.{[], _∷_}
 use Prim.Native.Nat.{ℕ}
 use lib.ListN.{length}
-use Rattle.meter.specs.Hear.{rates}
+use Rattle.meter.specs.Meter.{rates}
 use Rattle.values.specs.Values.{decimal}
 use Rattle.scenarios.specs.Tables.{media, faults}
 use Rattle.scenarios.specs.Builtins.{praxis, ok10, mfh30, bauds}

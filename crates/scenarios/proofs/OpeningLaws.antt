@@ -9,7 +9,7 @@ use borrow.Author.Tests.{eqb-true, leb-true, ltb-false}
 use lib.ListN.{length, drop, length-map}
 use Rattle.laws.specs.Words.{if_then_else_, at, Every}
 use Rattle.laws.proofs.Lists.{if-all, and-l, and-r}
-use Rattle.meter.specs.Hear.{rates}
+use Rattle.meter.specs.Meter.{rates}
 use Rattle.scenarios.specs.Tables.{media, faults, isMedium, isFault, isRate}
 use Rattle.scenarios.specs.Layout.{Listed, Layout, fits, noFit, readRecords}
 use Rattle.scenarios.specs.Check.{within, goodId, goodMaker, check, allPass}

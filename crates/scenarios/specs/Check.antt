@@ -5,7 +5,7 @@ use Prim.Native.Nat.{ℕ}
 use lib.Dec.{eqb, leb, ltb}
 use lib.ListN.{length}
 use Rattle.laws.specs.Words.{if_then_else_}
-use Rattle.meter.specs.Hear.{rates}
+use Rattle.meter.specs.Meter.{rates}
 use Rattle.scenarios.specs.Tables.{sameText, media, faults, isMedium, isFault, isRate, medium-heat-old}
 use Rattle.scenarios.specs.Layout.{Listed}
 

@@ -5,7 +5,7 @@ use mathlib.Core.List.{List, map}
 use Prim.Native.Nat.{ℕ}
 use lib.ListN.{length, take}
 use Rattle.laws.specs.Words.{if_then_else_}
-use Rattle.meter.specs.Hear.{rates}
+use Rattle.meter.specs.Meter.{rates}
 use Rattle.meter.specs.View.{plainMeter}
 use Rattle.scenarios.specs.Tables.{isRate}
 use Rattle.scenarios.specs.Opening.{metersIn, OpeningGives, openList}

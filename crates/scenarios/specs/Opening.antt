@@ -9,7 +9,7 @@ use Rattle.laws.specs.Words.{if_then_else_, at}
 use Rattle.values.specs.Values.{makerCode, decimal}
 use Rattle.meter.specs.PlainMeter.{PlainMeter}
 use Rattle.meter.specs.declared.LastFcb.the-variants.{Never}
-use Rattle.meter.specs.Hear.{rates}
+use Rattle.meter.specs.Meter.{rates}
 use Rattle.scenarios.specs.Tables.{media, faults, mediumOf, faultOf, isRate}
 use Rattle.scenarios.specs.Layout.{Listed, Layout, fits, noFit, readRecords}
 use Rattle.scenarios.specs.Check.{check, allPass}

@@ -3,7 +3,7 @@ ghost use mathlib.Core.Path.{_≡_};
 ghost use mathlib.Core.Bool.{true, _||_};
 ghost use Prim.Native.Nat.{_-_, _≤_, _<_};
 ghost use lib.Dec.{eqb};
-ghost use Rattle.meter.specs.Hear.{rates};
+ghost use Rattle.meter.specs.Meter.{rates};
 ghost use Rattle.scenarios.specs.Tables.{isRate};
 ghost use Rattle.scenarios.specs.Check.{goodId, goodMaker};
 ghost use Rattle.scenarios.specs.Opening.{textDigits};

@@ -1,7 +1,7 @@
 // The keys and codes of MEDIA, FAULTS and BAUD_RATES.
 ghost use mathlib.Core.Path.{_≡_};
 ghost use lib.ListN.{getD};
-ghost use Rattle.meter.specs.Hear.{rates};
+ghost use Rattle.meter.specs.Meter.{rates};
 ghost use Rattle.scenarios.specs.Tables.{media, faults, isRate, medium-water, fault-none};
 ghost use Rattle.scenarios.specs.Keys.{place, keysOf, KeyTable, mediaKeys, faultKeys};
 use super::texts::same_text;

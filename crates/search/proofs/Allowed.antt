@@ -9,9 +9,9 @@ use lib.ListN.{length}
 use borrow.Author.Tests.{eq-eqb, eqb-true, le-ltb, ltb-false}
 use Rattle.laws.specs.Words.{if_then_else_}
 use Rattle.laws.proofs.Lists.{and-l, and-r}
-use Rattle.meter.specs.declared.Clock.{Clock}
+use Rattle.clock.specs.declared.Clock.{Clock}
 use Rattle.bus.specs.Plain.{Plain}
-use Rattle.bus.specs.Calls.{goodClock}
+use Rattle.clock.specs.Fields.{goodClock}
 use Rattle.search.specs.declared.EntryRecord.{EntryRecord}
 use Rattle.search.specs.Walk.{wholeWalk, Searched, searchRefused, searchGave, searchCall}
 

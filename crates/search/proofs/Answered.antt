@@ -9,7 +9,7 @@ use lib.ListN.{length, drop}
 use borrow.Author.Tests.{eqb-false}
 use Rattle.laws.specs.Words.{if_then_else_, at}
 use Rattle.laws.proofs.Lists.{if-all}
-use Rattle.meter.specs.Hear.{rates}
+use Rattle.meter.specs.Meter.{rates}
 use Rattle.scenarios.specs.Tables.{isRate}
 use Rattle.scenarios.specs.Layout.{Listed, Layout, fits, noFit, readRecords}
 use Rattle.scenarios.specs.Check.{check, allPass}

@@ -9,10 +9,11 @@ use lib.ListN.{length, take}
 use lib.Seq.{take-nil}
 use Rattle.laws.specs.Words.{keep}
 use Rattle.frame.specs.Frame.{Telegram, encode}
-use Rattle.meter.specs.declared.Clock.{Clock}
+use Rattle.clock.specs.declared.Clock.{Clock}
 use Rattle.bus.specs.Plain.{Plain}
 use Rattle.bus.specs.Steps.{withInput, withQueue, settled}
-use Rattle.bus.specs.Calls.{goodClock, send}
+use Rattle.bus.specs.Calls.{send}
+use Rattle.clock.specs.Fields.{goodClock}
 use Rattle.bus.proofs.SendLaws.{send-steps}
 use Rattle.search.specs.declared.EntryRecord.{EntryRecord}
 use Rattle.search.specs.Walk.{Entry, mask, reading, ask, probe, read, entryOf, wholeWalk, recordOf}

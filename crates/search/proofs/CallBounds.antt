@@ -12,13 +12,14 @@ use Rattle.laws.specs.Words.{if_then_else_, Every}
 use Rattle.laws.proofs.Lists.{if-all, every-append}
 use Rattle.frame.specs.Frame.{parse}
 use Rattle.frame.proofs.Waiting.{Bytes, waiting-short}
-use Rattle.meter.specs.declared.Clock.{Clock}
-use Rattle.meter.specs.Hear.{rates}
+use Rattle.clock.specs.declared.Clock.{Clock}
+use Rattle.meter.specs.Meter.{rates}
 use Rattle.scenarios.specs.Tables.{isRate}
 use Rattle.scenarios.specs.Opening.{Opened, opens, refuses, refusesRecord, openList}
 use Rattle.bus.specs.Plain.{Plain, blank}
 use Rattle.bus.specs.Steps.{withInput, settled}
-use Rattle.bus.specs.Calls.{afterOpening, Done, accepted, refused, goodClock, send, receive, clear, changeBaud}
+use Rattle.bus.specs.Calls.{afterOpening, Done, accepted, refused, send, receive, clear, changeBaud}
+use Rattle.clock.specs.Fields.{goodClock}
 use Rattle.bus.proofs.SendLaws.{Waits, settled-waits}
 use Rattle.search.specs.declared.EntryRecord.{EntryRecord}
 use Rattle.search.specs.Walk.{Searched, searchCall}

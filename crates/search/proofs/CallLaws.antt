@@ -9,8 +9,8 @@ use lib.ListN.{length, length-map}
 use Rattle.laws.specs.Words.{Every}
 use Rattle.laws.proofs.Lists.{if-all, every-map, every-image, every-back}
 use Rattle.frame.specs.Frame.{Telegram, encode}
-use Rattle.meter.specs.declared.Clock.{Clock}
-use Rattle.meter.specs.Hear.{rates}
+use Rattle.clock.specs.declared.Clock.{Clock}
+use Rattle.meter.specs.Meter.{rates}
 use Rattle.scenarios.specs.Tables.{isRate}
 use Rattle.scenarios.specs.Opening.{Opened, opens, refuses, refusesRecord, openList, capacity}
 use Rattle.scenarios.proofs.OpeningLaws.{OpensWell, openList-well}

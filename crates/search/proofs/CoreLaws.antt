@@ -13,11 +13,11 @@ use Rattle.laws.proofs.Lists.{and-l, and-r, every-image, every-all}
 use Rattle.meter.specs.PlainMeter.{PlainMeter}
 use Rattle.meter.specs.View.{plainMeter}
 use Rattle.meter.specs.declared.Meter.{Meter}
-use Rattle.meter.specs.declared.Clock.{Clock}
+use Rattle.clock.specs.declared.Clock.{Clock}
 use Rattle.scenarios.specs.Opening.{capacity}
 use Rattle.bus.specs.declared.Segment.{Segment}
 use Rattle.bus.specs.Plain.{Plain}
-use Rattle.bus.specs.Calls.{goodClock}
+use Rattle.clock.specs.Fields.{goodClock}
 use Rattle.bus.specs.View.{plainOf}
 use Rattle.bus.proofs.SendLaws.{atRest}
 use Rattle.search.specs.declared.EntryRecord.{EntryRecord}

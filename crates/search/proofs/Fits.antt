@@ -12,17 +12,18 @@ use Rattle.laws.specs.Words.{keep, Every}
 use Rattle.laws.proofs.Lists.{every-map, every-all, every-image, keep-same, keep-map, keep-keep, keep-fewer, length-keep, map-map, map-same, and-l, and-r, and-both}
 use Rattle.frame.specs.Frame.{encode}
 use Rattle.meter.specs.PlainMeter.{PlainMeter}
-use Rattle.meter.specs.declared.Clock.{Clock}
+use Rattle.clock.specs.declared.Clock.{Clock}
 use Rattle.meter.specs.declared.Fault.the-variants.{None}
 use Rattle.meter.specs.Meter.{hears}
 use Rattle.values.specs.Values.{digitsOf}
 use Rattle.meter.specs.View.{plainMeter}
-use Rattle.meter.proofs.HearLaws.{Alike, probed-alike, read-alike}
+use Rattle.hear.proofs.HearLaws.{Alike, probed-alike, read-alike}
 use Rattle.scenarios.specs.Opening.{capacity}
 use Rattle.bus.specs.Plain.{Plain}
 use Rattle.bus.specs.declared.Segment.{Segment}
 use Rattle.bus.specs.View.{plainOf}
-use Rattle.bus.specs.Calls.{goodClock, send}
+use Rattle.bus.specs.Calls.{send}
+use Rattle.clock.specs.Fields.{goodClock}
 use Rattle.bus.proofs.SendLaws.{atRest}
 use Rattle.search.specs.Walk.{Entry, mask, reading, probe, read, Walked, wholeWalk}
 use Rattle.search.specs.Entries.{having, begins, atBus}

@@ -11,13 +11,13 @@ use borrow.Author.Tests.{eqb-true, eq-eqb}
 use Rattle.laws.specs.Words.{if_then_else_, keep, Every}
 use Rattle.laws.proofs.Lists.{every-map, every-both, every-all, every-keep, every-image, keep-passes, keep-same, keep-map, keep-keep, map-map, map-same, and-l, and-r}
 use Rattle.meter.specs.PlainMeter.{PlainMeter}
-use Rattle.meter.specs.declared.Clock.{Clock}
+use Rattle.clock.specs.declared.Clock.{Clock}
 use Rattle.meter.specs.Meter.{flaky, hears, put, withHearsNext, asked}
-use Rattle.meter.specs.Response.{readout}
-use Rattle.meter.proofs.HearLaws.{Alike, alike-trans, probed-alike, probed-readouts, probed-selected, read-alike, read-left}
+use Rattle.readout.specs.Response.{readout}
+use Rattle.hear.proofs.HearLaws.{Alike, alike-trans, probed-alike, probed-readouts, probed-selected, read-alike, read-left}
 use Rattle.scenarios.specs.Opening.{capacity}
 use Rattle.bus.specs.Plain.{Plain, joined}
-use Rattle.bus.specs.Calls.{goodClock}
+use Rattle.clock.specs.Fields.{goodClock}
 use Rattle.bus.proofs.SendLaws.{atRest}
 use Rattle.search.specs.Walk.{Entry, mask, reading, probe, read, entryOf, wholeWalk}
 use Rattle.search.specs.Entries.{atBus, atBusBaud, NoFlaky, begins, having, loneEntry}

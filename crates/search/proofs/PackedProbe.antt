@@ -11,12 +11,12 @@ use lib.ListN.{length}
 use Rattle.laws.specs.Words.{if_then_else_, keep, Every}
 use Rattle.meter.specs.PlainMeter.{PlainMeter}
 use Rattle.values.specs.Values.{digitsOf}
-use Rattle.meter.specs.declared.Clock.{Clock}
+use Rattle.clock.specs.declared.Clock.{Clock}
 use Rattle.meter.specs.Meter.{hears, flaky, matches}
-use Rattle.meter.specs.Hear.{Heard, quiet, select, hear}
-use Rattle.meter.proofs.HearLaws.{hear-select}
+use Rattle.hear.specs.Hear.{Heard, quiet, select, hear}
+use Rattle.hear.proofs.HearLaws.{hear-select}
 use Rattle.scenarios.specs.Opening.{capacity}
-use Rattle.bus.specs.Calls.{goodClock}
+use Rattle.clock.specs.Fields.{goodClock}
 use Rattle.bus.proofs.SendLaws.{atRest}
 use Rattle.search.specs.Walk.{mask, probe}
 use Rattle.search.specs.Entries.{begins}

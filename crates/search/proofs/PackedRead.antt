@@ -12,16 +12,16 @@ use Rattle.laws.proofs.Lists.{and-r}
 use Rattle.laws.specs.Words.{if_then_else_, keep, Every}
 use Rattle.frame.specs.Frame.{parse}
 use Rattle.meter.specs.PlainMeter.{PlainMeter}
-use Rattle.meter.specs.declared.Clock.{Clock}
+use Rattle.clock.specs.declared.Clock.{Clock}
 use Rattle.meter.specs.declared.Fault.{Fault}
 use Rattle.meter.specs.declared.Fault.the-variants.{None, Checksum, Truncated, Busy, WrongAddress, Flaky, TooMany}
 use Rattle.meter.specs.Meter.{withHearsNext, hears, flaky, put, asked}
-use Rattle.meter.specs.Hear.{Heard, quiet, request}
-use Rattle.meter.specs.Response.{readout}
-use Rattle.meter.proofs.HearLaws.{hear-reading}
+use Rattle.hear.specs.Hear.{Heard, quiet, request}
+use Rattle.readout.specs.Response.{readout}
+use Rattle.hear.proofs.HearLaws.{hear-reading}
 use Rattle.scenarios.specs.Opening.{capacity}
 use Rattle.bus.specs.Plain.{Plain, joined}
-use Rattle.bus.specs.Calls.{goodClock}
+use Rattle.clock.specs.Fields.{goodClock}
 use Rattle.bus.proofs.SendLaws.{atRest}
 use Rattle.search.specs.Walk.{Entry, one, mute, reading, read, entryOf, recordOf}
 use Rattle.search.specs.Entries.{begins, failsBy}

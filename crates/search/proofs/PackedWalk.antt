@@ -11,9 +11,9 @@ use borrow.Author.Tests.{ne-eqb, leb-true, leb-false}
 use lib.ListN.{length, take, length-append, length-map}
 use Rattle.laws.specs.Words.{if_then_else_}
 use Rattle.meter.specs.PlainMeter.{PlainMeter}
-use Rattle.meter.specs.declared.Clock.{Clock}
+use Rattle.clock.specs.declared.Clock.{Clock}
 use Rattle.bus.specs.Plain.{Plain}
-use Rattle.bus.specs.Calls.{goodClock}
+use Rattle.clock.specs.Fields.{goodClock}
 use Rattle.bus.proofs.SendLaws.{atRest}
 use Rattle.search.specs.declared.EntryRecord.{EntryRecord}
 use Rattle.search.specs.Walk.{Entry, many, ten, probe, read, recordOf, wholeWalk}

@@ -12,16 +12,17 @@ use Rattle.laws.proofs.Lists.{every-map, every-all, every-image, length-keep, m
 use Rattle.frame.specs.Frame.{Telegram, encode}
 use Rattle.seconds.specs.Seconds.{elapsedOf}
 use Rattle.meter.specs.PlainMeter.{PlainMeter}
-use Rattle.meter.specs.declared.Clock.{Clock}
+use Rattle.clock.specs.declared.Clock.{Clock}
 use Rattle.meter.specs.Meter.{hears, put, asked}
-use Rattle.meter.specs.Response.{readout}
-use Rattle.meter.specs.Hear.{silence, says, E5, hear}
-use Rattle.meter.proofs.HearLaws.{probed-reply, read-reply}
-use Rattle.meter.proofs.ReadoutLaws.{readout-short}
+use Rattle.readout.specs.Response.{readout}
+use Rattle.hear.specs.Hear.{silence, says, E5, hear}
+use Rattle.hear.proofs.HearLaws.{probed-reply, read-reply}
+use Rattle.readout.proofs.ReadoutLaws.{readout-short}
 use Rattle.scenarios.specs.Opening.{capacity}
 use Rattle.bus.specs.Plain.{Plain, joined}
 use Rattle.bus.specs.Steps.{replies, toAll, withQueue}
-use Rattle.bus.specs.Calls.{Done, accepted, goodClock, send}
+use Rattle.bus.specs.Calls.{Done, accepted, send}
+use Rattle.clock.specs.Fields.{goodClock}
 use Rattle.bus.proofs.JoinLaws.{replies-keep, joined-acks, count-acks, joined-short}
 use Rattle.bus.proofs.SendLaws.{atRest, sentTo, afterSent, send-rest}
 use Rattle.search.specs.Walk.{mask, reading, ask, probe, entryOf, read}

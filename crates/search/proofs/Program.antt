@@ -10,7 +10,7 @@ use lib.ListN.{length, take, length-append, length-map}
 use lib.Seq.{take-all, take-nil}
 use borrow.Author.Tests.{lt-ltb}
 use Rattle.laws.specs.Words.{if_then_else_}
-use Rattle.meter.specs.declared.Clock.{Clock}
+use Rattle.clock.specs.declared.Clock.{Clock}
 use Rattle.bus.specs.Plain.{Plain}
 use Rattle.search.specs.Walk.{Entry, many, ten, probe, read, Walked, noted, row, answered, probed, walk, wholeWalk}
 use Rattle.search.proofs.Model.{Digits, Prefix, ten-digits, prefix-longer}

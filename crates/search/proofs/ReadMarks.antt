@@ -8,11 +8,11 @@ use lib.Ieee.{Float}
 use borrow.Author.Tests.{ltb-true, ltb-false}
 use Rattle.laws.specs.Words.{if_then_else_}
 use Rattle.meter.specs.PlainMeter.{PlainMeter}
-use Rattle.meter.specs.declared.Clock.{Clock}
+use Rattle.clock.specs.declared.Clock.{Clock}
 use Rattle.meter.specs.declared.Fault.{Fault}
 use Rattle.meter.specs.declared.Fault.the-variants.{None, Checksum, Truncated, Busy, WrongAddress, Flaky, TooMany}
 use Rattle.meter.specs.Meter.{flaky, hears, put, asked, readoutsNow}
-use Rattle.meter.specs.Hear.{Heard, answers, request}
+use Rattle.hear.specs.Hear.{Heard, answers, request}
 use Rattle.search.specs.Marks.{bitIf, yesOf, hearsOf, readoutsIn, readMark}
 use Rattle.search.specs.Packing.{on, stand, standing}
 use Rattle.search.proofs.MarkLaws.{turned, tooMany, Bits, bits-kept, Silent, putB, yes-bit, hears-bit, bit-on, bit-is, bit-small, bit-of}

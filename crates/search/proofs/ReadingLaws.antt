@@ -14,12 +14,12 @@ use Rattle.frame.proofs.RoundTrip.{parse-encode}
 use Rattle.values.specs.Values.{idBytes, nibbles}
 use Rattle.values.proofs.ValueLaws.{nibbles-id}
 use Rattle.meter.specs.PlainMeter.{PlainMeter}
-use Rattle.meter.specs.declared.Clock.{Clock}
+use Rattle.clock.specs.declared.Clock.{Clock}
 use Rattle.meter.specs.declared.Fault.{Fault}
 use Rattle.meter.specs.declared.Fault.the-variants.{None, Checksum, Truncated, Busy, WrongAddress, Flaky, TooMany}
 use Rattle.meter.specs.Meter.{asked, readoutsNow}
-use Rattle.meter.specs.Response.{userData, error, response, damaged, readout}
-use Rattle.meter.proofs.ReadoutLaws.{Shape, userData-shape, flipped-fails, cut-waits, length-id}
+use Rattle.readout.specs.Response.{userData, error, response, damaged, readout}
+use Rattle.readout.proofs.ReadoutLaws.{Shape, userData-shape, flipped-fails, cut-waits, length-id}
 use Rattle.search.specs.Walk.{one, mute, good, idOf, entryOf}
 use Rattle.search.specs.Entries.{loneEntry, begins, failsBy}
 use Rattle.search.proofs.Model.{Prefix}

@@ -8,7 +8,7 @@ use native.Mathlib.Nat.{sub-zero}
 use lib.Dec.{leb}
 use borrow.Author.Tests.{leb-true, leb-false}
 use Rattle.laws.specs.Words.{if_then_else_}
-use Rattle.meter.specs.declared.Clock.{Clock}
+use Rattle.clock.specs.declared.Clock.{Clock}
 use Rattle.bus.specs.Plain.{Plain}
 use Rattle.search.specs.Walk.{Entry, many, ten, probe, read, Walked, wholeWalk}
 use Rattle.search.proofs.Faithful.{RunS, onS, stoppedS, afterS, rowS, paidS, heardS, walkS}

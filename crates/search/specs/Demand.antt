@@ -8,7 +8,7 @@ use lib.Ieee.{Float}
 use lib.ListN.{length, drop}
 use Rattle.laws.specs.Words.{keep}
 use Rattle.meter.specs.PlainMeter.{PlainMeter}
-use Rattle.meter.specs.declared.Clock.{Clock}
+use Rattle.clock.specs.declared.Clock.{Clock}
 use Rattle.bus.specs.Plain.{Plain, blank}
 use Rattle.search.specs.declared.EntryRecord.{EntryRecord}
 use Rattle.search.specs.Walk.{Entry, Walked, wholeWalk, recordOf, Searched, searchCall}

@@ -10,11 +10,12 @@ use lib.ListN.{length, drop, replicate}
 use Rattle.laws.specs.Words.{if_then_else_, keep}
 use Rattle.frame.specs.Frame.{Telegram, ack, short, long, complete, incomplete, invalid, parse, encode}
 use Rattle.values.specs.Values.{idBytes, nibbles}
-use Rattle.meter.specs.declared.Clock.{Clock}
+use Rattle.clock.specs.declared.Clock.{Clock}
 use Rattle.meter.specs.Meter.{alike}
 use Rattle.bus.specs.Plain.{Plain}
 use Rattle.bus.specs.Steps.{withQueue}
-use Rattle.bus.specs.Calls.{send, goodClock}
+use Rattle.bus.specs.Calls.{send}
+use Rattle.clock.specs.Fields.{goodClock}
 use Rattle.search.specs.declared.EntryRecord.{EntryRecord}
 use Rattle.search.specs.declared.Kind.the-variants.{One, Mute, Many}
 

@@ -8,8 +8,8 @@ ghost use Rattle.search.specs.Marks.{places};
 ghost use Rattle.search.specs.View.{Empty, held, Walks, Refuses, Finds, answerOf, entryAt, searchedOf};
 use bus::METERS;
 use bus::Segment;
-use bus::good_clock;
-use meter::Clock;
+use clock::Clock;
+use clock::good_clock;
 
 mod marks;
 mod pack;

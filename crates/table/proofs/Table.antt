@@ -10,8 +10,9 @@ use Rattle.frame.specs.Frame.{short, encode, sum, parse, parseShort, parseLong,
 use Rattle.values.specs.Values.{makerCode, bcd, typeG, typeF, idBytes, nibbles, decimal, little}
 use Rattle.seconds.specs.Seconds.{whole, elapsedOf, notBelow0}
 use Rattle.meter.specs.Meter.{hears, put, alike, matches, asked}
-use Rattle.meter.specs.Response.{fixedData, head, clockF, heatFirst, heatSecond, electricity, water, userData, response, damaged, readout}
-use Rattle.meter.specs.Hear.{rates, target, nke, request, select, commanded, listens, hear}
+use Rattle.readout.specs.Response.{fixedData, head, clockF, heatFirst, heatSecond, electricity, water, userData, response, damaged, readout}
+use Rattle.hear.specs.Hear.{target, nke, request, select, commanded, listens, hear}
+use Rattle.meter.specs.Meter.{rates}
 use Rattle.scenarios.specs.Tables.{media, faults}
 use Rattle.scenarios.specs.Layout.{readTexts, readRecords}
 use Rattle.scenarios.specs.Check.{goodId, goodMaker, check}
@@ -19,7 +20,8 @@ use Rattle.scenarios.specs.Opening.{capacity, ownBaud, seedOf, fresh, openRecor
 use Rattle.scenarios.specs.Builtins.{ok10}
 use Rattle.bus.specs.Plain.{Plain, blank, joined}
 use Rattle.bus.specs.Steps.{heardBy, handled, steps, settled}
-use Rattle.bus.specs.Calls.{afterOpening, goodClock, send}
+use Rattle.bus.specs.Calls.{afterOpening, send}
+use Rattle.clock.specs.Fields.{goodClock}
 use Rattle.search.specs.Walk.{one, many, maskDigits, mask, reading, ask, probe, good, idOf, entryOf, read, ten, walk, wholeWalk, searchCall}
 use Rattle.search.specs.Entries.{atBusBaud, D}
 use Rattle.search.specs.declared.EntryRecord.{EntryRecord}

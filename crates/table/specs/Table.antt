@@ -9,7 +9,7 @@ use lib.ListN.{length}
 use Rattle.frame.specs.Frame.{short, encode}
 use Rattle.values.specs.Values.{makerCode, bcd, typeG, idBytes}
 use Rattle.seconds.specs.Seconds.{whole, last32, elapsedOf}
-use Rattle.meter.specs.declared.Clock.{Clock}
+use Rattle.clock.specs.declared.Clock.{Clock}
 use Rattle.scenarios.specs.Opening.{seedOf}
 use Rattle.scenarios.specs.Builtins.{ok10}
 use Rattle.bus.specs.Plain.{Plain, blank, joined}

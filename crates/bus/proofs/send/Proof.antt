@@ -1,11 +1,11 @@
-use mathlib.Core.Path.{_≡_, sym}
+use mathlib.Core.Path.{_≡_, sym, _∙_}
 use mathlib.Core.List.{_++_}
 use Prim.Native.Nat.{_+_}
 use native.Mathlib.Omega.{arith}
 use lib.ListN.{length, take}
 use lib.Seq.{length-take-le}
 use Rattle.bus.specs.View.{plainOf}
-use Rattle.bus.proofs.SentLaws.{send-long, send-clock, send-full, send-accepted, line-is}
+use Rattle.bus.proofs.SentLaws.{send-long, send-clock, send-settles, line-is}
 use borrow.Author.Needs.{needs}
 use Rattle.bus.proofs.send.Statement.{statement}
 use Rattle.bus.proofs.send.Tie as tie
@@ -59,20 +59,11 @@ settle-requires c κs = search needs
 
 returns-3 : tie.Need-returns-3
 returns-3 c =
-    let l = c .before .before .before in
+    let l = c .before .before in
     let e = l .before .before .before in
     let g = e .before in
     let a = g .before .before .before .args in
-    send-full (a .piece .now) (a .clock) (plainOf (a .segment)) (g .before .if1 .left) (g .good-clock .ensures) (e .if2 .left) (line l) (c .before .settle .ensures) (c .if3 .taken)
-
-returns-4 : tie.Need-returns-4
-returns-4 c =
-    let s = c .before .before in
-    let l = s .before .before in
-    let e = l .before .before .before in
-    let g = e .before in
-    let a = g .before .before .before .args in
-    send-accepted (a .piece .now) (a .clock) (plainOf (a .segment)) (g .before .if1 .left) (g .good-clock .ensures) (e .if2 .left) (line l) (s .settle .ensures) (c .before .if3 .left)
+    c .settle .ensures ∙ send-settles (a .piece .now) (a .clock) (plainOf (a .segment)) (g .before .if1 .left) (g .good-clock .ensures) (e .if2 .left) (line l)
 
 pub send-spec : {M : Type 1} → statement M
 send-spec =
@@ -87,5 +78,4 @@ send-spec =
     array-share-prefix-bytes
     slice-aggregate-settle
     settle-requires
-    returns-3
-    returns-4)
+    returns-3)

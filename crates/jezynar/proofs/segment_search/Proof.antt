@@ -3,7 +3,7 @@ use mathlib.Core.Path.{_≡_, sym, _∙_}
 use native.Mathlib.Omega.{arith}
 use lib.ListN.{length}
 use Rattle.laws.proofs.Sweep.{length-mapped}
-use Rattle.meter.specs.declared.Clock.{Clock}
+use Rattle.clock.specs.declared.Clock.{Clock}
 use Rattle.jezynar.proofs.SearchLaws.{search-refused, search-made}
 use borrow.Author.Needs.{needs}
 use Rattle.jezynar.proofs.segment_search.Statement.{statement}

@@ -1,7 +1,7 @@
 -- `jezynar::segment_send` meets its contract. Assumes nothing.
 use mathlib.Core.Path.{ap, sym, _∙_}
 use native.Mathlib.Omega.{arith}
-use Rattle.meter.specs.declared.Clock.{Clock}
+use Rattle.clock.specs.declared.Clock.{Clock}
 use Rattle.bus.specs.Calls as calls
 use Rattle.bus.specs.View.{plainOf, sentOf}
 use Rattle.jezynar.proofs.ImageLaws.{send-stays, refused-call, accepted-call}

@@ -46,9 +46,9 @@ use denote.Triple.Table.{entered, cited}
 use denote.Triple.Clauses.{ensured, lasts}
 use denote.Triple.Walked.{says, Stays, stay-none, stay-slice, walkOf, goes-none, goes-slice, Walks, ends-at, walked, walk-meets}
 use denote.Exit.{yes}
-use Rattle.meter.specs.declared.Clock.{Clock}
-use Rattle.meter.proofs.Clock as K
-use Rattle.meter.proofs.Clock.Laws as K′
+use Rattle.clock.specs.declared.Clock.{Clock}
+use Rattle.clock.proofs.Clock as K
+use Rattle.clock.proofs.Clock.Laws as K′
 use Rattle.bus.specs.declared.Segment.{Segment}
 use Rattle.bus.specs.View.{plainOf}
 use Rattle.bus.proofs.Segment as S

@@ -16,7 +16,7 @@ append-acks-requires c κs =
 returns : tie.Need-returns
 returns c =
     let a = c .before .before .before .args in
-    put-acks (a .kept) (a .t3) (a .queued) (a .queue .now) (c .append-acks .last .0) (c .before .before .if1 .taken) (c .append-acks .ensures)
+    (put-acks (a .kept) (a .t3) (a .queued) (a .queue .now) (c .append-acks .last .0) (c .before .before .if1 .taken) (c .append-acks .ensures .0), c .append-acks .ensures .1)
 
 array-share-prefix-joined : tie.Need-array-share-prefix-joined
 array-share-prefix-joined c = search needs
@@ -37,8 +37,10 @@ append-requires c κs =
 returns-2 : tie.Need-returns-2
 returns-2 c =
     let d = c .before .before .before in
-    let a = d .before .args in
-    put-and (a .kept) (a .t3) (a .queued) (a .queue .now) (c .append .last .0) (d .if1 .left) (ap (λ n. take (a .queued + n) (c .append .last .0)) (sym (long (c .before))) ∙ c .append .ensures)
+    let a = d .before .args in (
+      put-and (a .kept) (a .t3) (a .queued) (a .queue .now) (c .append .last .0) (d .if1 .left) (ap (λ n. take (a .queued + n) (c .append .last .0)) (sym (long (c .before))) ∙ c .append .ensures .0),
+      c .append .ensures .1,
+    )
 
 pub put-spec : {M : Type 1} → statement M
 put-spec =

@@ -38,7 +38,7 @@ loop-again c =
 returns : tie.Need-returns Inv-loop μ-loop
 returns c =
     let at = c .before .loop in
-    ap (λ (k : ℕ). take (c .before .before .args .queued + k) (at .queue)) (omega arith) ∙ copied-whole (at .inv .4) (omega arith) (omega arith)
+    (ap (λ (k : ℕ). take (c .before .before .args .queued + k) (at .queue)) (omega arith) ∙ copied-whole (at .inv .4) (omega arith) (omega arith), at .inv .3)
 
 pub append-spec : {M : Type 1} → statement M
 append-spec =

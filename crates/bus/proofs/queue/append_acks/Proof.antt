@@ -40,7 +40,7 @@ returns c =
     let n = c .before .before .args .n in
     let l = length-replicate {A = ℕ} n 0xE5 in
     let at = c .before .loop in
-    ap (λ (k : ℕ). take (c .before .before .args .queued + k) (at .queue)) (omega arith) ∙ copied-whole (at .inv .4) (omega arith) (omega arith)
+    (ap (λ (k : ℕ). take (c .before .before .args .queued + k) (at .queue)) (omega arith) ∙ copied-whole (at .inv .4) (omega arith) (omega arith), at .inv .3)
 
 pub append-acks-spec : {M : Type 1} → statement M
 append-acks-spec =

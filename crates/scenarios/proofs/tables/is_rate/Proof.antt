@@ -2,7 +2,7 @@
 use borrow.Author.Needs.{needs}
 use Prim.Native.Nat.{_-_}
 use native.Mathlib.Omega.{arith}
-use Rattle.meter.specs.Hear.{rates}
+use Rattle.meter.specs.Meter.{rates}
 use Rattle.scenarios.proofs.TextLaws.{RateTo, rate-none, rate-found, rate-more, rate-all}
 use Rattle.scenarios.proofs.tables.is_rate.Statement.{statement}
 use Rattle.scenarios.proofs.tables.is_rate.Tie as tie

@@ -1,0 +1,143 @@
+// Which telegram it is, and whether it is for a meter.
+ghost use mathlib.Core.Path.{_≡_};
+ghost use mathlib.Core.Bool.{_||_};
+ghost use Prim.Native.Nat.{ℕ};
+ghost use lib.Dec.{eqb};
+ghost use Rattle.frame.specs.Frame.{long};
+ghost use Rattle.frame.specs.View.{telegramOf};
+ghost use Rattle.values.specs.Values.{digitsOf};
+ghost use Rattle.hear.specs.Hear.{isNke, isReqUd2, fcbOf, isSndUd, isSelect, setsPrimary, setsBaud, reaches, target, concerns};
+ghost use Rattle.meter.specs.View.{plainMeter};
+use frame::Frame;
+use meter::Meter;
+use meter::matching::id_matches;
+
+pub fn is_nke(control: u8) -> bool
+    ensures { λ r. ⌜ r ≡ isNke control ⌝ }
+{
+    control == frame::C_SND_NKE
+}
+
+pub fn is_req_ud2(control: u8) -> bool
+    ensures { λ r. ⌜ r ≡ isReqUd2 control ⌝ }
+{
+    control & 0xCF == 0x4B
+}
+
+pub fn fcb_of(control: u8) -> bool
+    ensures { λ r. ⌜ r ≡ fcbOf control ⌝ }
+{
+    control & frame::FCB != 0
+}
+
+pub fn is_snd_ud(control: u8) -> bool
+    ensures { λ r. ⌜ r ≡ isSndUd control ⌝ }
+{
+    control & 0xCF == 0x43
+}
+
+pub fn is_select(ci: u8, address: u8) -> bool
+    ensures { λ r. ⌜ r ≡ isSelect ci address ⌝ }
+{
+    if ci == frame::CI_SELECT {
+        return address == frame::ADDR_SELECTED;
+    }
+    false
+}
+
+// A new primary address: the data are 01 7A and the address.
+pub fn sets_primary(ci: u8, data: &[u8]) -> bool
+    ensures { λ r. ⌜ r ≡ setsPrimary ci (now («data» .entry)) ⌝ }
+{
+    if ci == frame::CI_DATA_SEND {
+        if data.len() == 3 {
+            if data[0] == 0x01 {
+                return data[1] == 0x7A;
+            }
+        }
+    }
+    false
+}
+
+// A new rate: B8 to BF, with no data.
+pub fn sets_baud(ci: u8, data: &[u8]) -> bool
+    ensures { λ r. ⌜ r ≡ setsBaud ci (now («data» .entry)) ⌝ }
+{
+    if ci < 0xB8 {
+        return false;
+    }
+    if 0xBF < ci {
+        return false;
+    }
+    data.len() == 0
+}
+
+// Addresses FE and FF.
+fn is_broadcast(address: u8) -> bool
+    ensures { λ r. ⌜ r ≡ (eqb address 0xFE || eqb address 0xFF) ⌝ }
+{
+    if address == frame::ADDR_BROADCAST_REPLY {
+        return true;
+    }
+    address == frame::ADDR_BROADCAST
+}
+
+// FE and FF reach all, FD the selected, any other the meter with this primary address.
+fn reaches(address: u8, primary: u8, selected: bool) -> bool
+    ensures { λ r. ⌜ r ≡ reaches address primary selected ⌝ }
+{
+    if is_broadcast(address) {
+        return true;
+    }
+    if address == frame::ADDR_SELECTED {
+        return selected;
+    }
+    primary == address
+}
+
+pub fn is_target(m: Meter, address: u8) -> bool
+    ensures { λ r. ⌜ r ≡ target address (plainMeter m) ⌝ }
+{
+    reaches(address, m.primary, m.selected)
+}
+
+// A select concerns the selected and those whose id it matches; any other telegram its target.
+fn select_or_target(ci: u8, address: u8, data: &[u8], primary: u8, selected: bool, id: u32) -> bool
+    ensures { λ r. ⌜ ((c : ℕ) → r ≡ concerns (long c address ci (now («data» .entry))) primary selected (digitsOf id)) ⌝ }
+{
+    if is_select(ci, address) {
+        if selected {
+            return true;
+        }
+        return id_matches(id, data);
+    }
+    reaches(address, primary, selected)
+}
+
+// Whether a telegram can do anything to a meter with this primary address, selection and id. It spares the others the step.
+pub fn concerns(frame: Frame, data: &[u8], primary: u8, selected: bool, id: u32) -> bool
+    ensures { λ r. ⌜ r ≡ concerns (telegramOf frame (now («data» .entry))) primary selected (digitsOf id) ⌝ }
+{
+    match frame {
+        Frame::Ack => false,
+        Frame::Short {
+            control: _,
+            address,
+        } => reaches(address, primary, selected),
+        Frame::Long {
+            control: _,
+            address,
+            ci,
+        } => select_or_target(ci, address, data, primary, selected, id),
+    }
+}
+
+// Addresses FD and FF, to which an NKE deselects.
+pub fn deselects(to: u8) -> bool
+    ensures { λ r. ⌜ r ≡ (eqb to 0xFD || eqb to 0xFF) ⌝ }
+{
+    if to == frame::ADDR_SELECTED {
+        return true;
+    }
+    to == frame::ADDR_BROADCAST
+}

@@ -1,0 +1,4 @@
+pub mod ByteLaws
+pub mod ReadoutLaws
+pub mod RecordLaws
+pub mod ReplyLaws
