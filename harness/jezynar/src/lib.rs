@@ -1,0 +1,300 @@
+//! A simulated M-Bus segment (EN 13757-2) and the search over it: a safe wrapper over the static library, whose
+//! functions are proved to meet their contracts for every input.
+//!
+//! A [`Segment`] holds the meters of a list, the bus baud, the waiting input and the queue of replies. It does nothing
+//! by itself: time comes with each call as a [`Clock`]. No call panics, and a refused call changes nothing: neither the
+//! segment nor what was lent. A thread with 128 KiB of stack is enough for every call.
+//!
+//! To build, `JEZYNAR_LIB` names the folder that holds `libjezynar.a`.
+//!
+//! # Example
+//!
+//! Two meters; the first is reset and read, then both are searched for.
+//!
+//! ```
+//! use jezynar::frame::{self, Frame, Parsed};
+//! use jezynar::list::{self, MeterSpec};
+//! use jezynar::{Clock, Segment};
+//!
+//! # fn main() -> Result<(), Box<dyn std::error::Error>> {
+//! let meters = list::write(&[
+//!     MeterSpec::new(1, "12345678", "SEN", "water"),
+//!     MeterSpec::new(2, "12345699", "SEN", "water"),
+//! ])?;
+//! let mut segment = Segment::new();
+//! segment.open(&meters, 2400, false, 0.0)?;
+//!
+//! // SND_NKE and REQ_UD2 to the primary address 1.
+//! let clock = Clock { secs: 60.0, year: 2026, month: 10, day: 1, hour: 0, minute: 1 };
+//! let mut telegram = [0; 5];
+//! for control in [0x40, 0x5B] {
+//!     frame::encode(&Frame::Short { control, address: 1 }, &mut telegram)?;
+//!     segment.send(&telegram, &clock)?;
+//! }
+//!
+//! // The replies come in pieces of at most 32 bytes.
+//! let mut replies = Vec::new();
+//! let mut piece = [0; 32];
+//! loop {
+//!     let count = segment.receive(&mut piece);
+//!     if count == 0 {
+//!         break;
+//!     }
+//!     replies.extend_from_slice(&piece[..count]);
+//! }
+//!
+//! // The acknowledgement of SND_NKE, then the data of meter 1.
+//! assert_eq!(frame::parse(&replies), Parsed::Complete { frame: Frame::Ack, used: 1 });
+//! let Parsed::Complete { frame: Frame::Long { address, ci, data, .. }, .. } = frame::parse(&replies[1..]) else {
+//!     return Err("no readout".into());
+//! };
+//! assert_eq!((address, ci), (1, 0x72));
+//! assert_eq!(data[..4], [0x78, 0x56, 0x34, 0x12]);
+//!
+//! let found = segment.search(&clock, 10_000)?;
+//! println!("{} entries, {} probes", found.entries.len(), found.probes);
+//! for entry in &found.entries {
+//!     println!("{} {entry}", entry.kind);
+//! }
+//! # let lines: Vec<String> = found.entries.iter().map(|entry| format!("{} {entry}", entry.kind)).collect();
+//! # assert_eq!((lines, found.probes), (vec!["one 12345678".to_string(), "one 12345699".to_string()], 71));
+//! # Ok(())
+//! # }
+//! ```
+//!
+//! It prints
+//!
+//! ```text
+//! 2 entries, 71 probes
+//! one 12345678
+//! one 12345699
+//! ```
+
+#![deny(missing_docs)]
+#![deny(unsafe_code)]
+#![deny(clippy::unwrap_used, clippy::expect_used, clippy::panic, clippy::indexing_slicing)]
+#![deny(clippy::arithmetic_side_effects, clippy::undocumented_unsafe_blocks)]
+
+#[allow(unsafe_code)]
+mod ffi;
+pub mod frame;
+pub mod list;
+mod refusal;
+
+pub use refusal::{BaudRefusal, EncodeRefusal, OpenRefusal, SearchRefusal, SendRefusal};
+
+use std::fmt;
+
+/// How many bytes a segment's image has.
+pub const IMAGE: usize = 5974;
+/// The most meters that a segment has, and the most entries that a search gives.
+pub const METERS: usize = 64;
+
+/// The clock of a send or a search.
+#[derive(Clone, Copy, Debug, PartialEq)]
+pub struct Clock {
+    /// The seconds of the instant, on the same scale as the origin of the opening; any value.
+    pub secs: f64,
+    /// The year, 1970 to 9999.
+    pub year: u32,
+    /// The month, 1 to 12.
+    pub month: u32,
+    /// The day, 1 to 31.
+    pub day: u32,
+    /// The hour, 0 to 23.
+    pub hour: u32,
+    /// The minute, 0 to 59.
+    pub minute: u32,
+}
+
+/// What an entry of a search says.
+#[derive(Clone, Copy, Debug, PartialEq, Eq, Hash)]
+pub enum EntryKind {
+    /// A meter that was found and read; the digits are its id.
+    One,
+    /// A meter that answers a mask, but whose reading fails; the digits are the mask.
+    Mute,
+    /// An id that several meters have; the digits are the id.
+    Many,
+}
+
+impl fmt::Display for EntryKind {
+    /// `one`, `mute` or `many`.
+    fn fmt(&self, f: &mut fmt::Formatter<'_>) -> fmt::Result {
+        f.pad(match self {
+            EntryKind::One => "one",
+            EntryKind::Mute => "mute",
+            EntryKind::Many => "many",
+        })
+    }
+}
+
+/// An entry that a search gives.
+#[derive(Clone, Copy, Debug, PartialEq, Eq, Hash)]
+pub struct Entry {
+    /// What the entry says.
+    pub kind: EntryKind,
+    /// The eight digits of the id or the mask, most significant first; 15 is an unknown digit.
+    pub digits: [u8; 8],
+    /// How many meters acknowledged.
+    pub count: u32,
+}
+
+impl Entry {
+    fn read(row: &[u8; ffi::ENTRY]) -> Self {
+        let [kind, d0, d1, d2, d3, d4, d5, d6, d7, n0, n1, n2, n3, ..] = *row;
+        let kind = match kind {
+            1 => EntryKind::One,
+            2 => EntryKind::Mute,
+            _ => EntryKind::Many,
+        };
+        Entry { kind, digits: [d0, d1, d2, d3, d4, d5, d6, d7], count: u32::from_le_bytes([n0, n1, n2, n3]) }
+    }
+}
+
+impl Default for Entry {
+    /// A place to lend: a mute with no digit known that nobody acknowledged, which no search gives.
+    fn default() -> Self {
+        Entry { kind: EntryKind::Mute, digits: [15; 8], count: 0 }
+    }
+}
+
+impl fmt::Display for Entry {
+    /// The eight digits, F for an unknown one.
+    fn fmt(&self, f: &mut fmt::Formatter<'_>) -> fmt::Result {
+        let digit = |d: &u8| char::from_digit(u32::from(*d), 16).map_or('?', |c| c.to_ascii_uppercase());
+        f.pad(&self.digits.iter().map(digit).collect::<String>())
+    }
+}
+
+/// What a search found.
+#[derive(Clone, Debug, PartialEq, Eq, Hash)]
+pub struct Found {
+    /// The entries, in the order of their digits.
+    pub entries: Vec<Entry>,
+    /// How many probes were made.
+    pub probes: u32,
+    /// Whether the search stopped because its allowance was spent; there may then be more to find.
+    pub spent: bool,
+}
+
+/// What a search into lent entries did.
+#[derive(Clone, Copy, Debug, PartialEq, Eq, Hash)]
+pub struct Summary {
+    /// How many entries were written.
+    pub entries: usize,
+    /// How many probes were made.
+    pub probes: u32,
+    /// Whether the search stopped because its allowance was spent; there may then be more to find.
+    pub spent: bool,
+}
+
+/// A simulated segment.
+///
+/// It is one image of [`IMAGE`] bytes, which [`as_image`](Segment::as_image) shows and
+/// [`from_image`](Segment::from_image) takes back. Two images may mean the same segment and differ in bytes that are
+/// not in use, so that segments are not compared.
+#[derive(Clone)]
+pub struct Segment {
+    image: Box<[u8; IMAGE]>,
+}
+
+impl Segment {
+    /// A segment with no meters, 2400 Bd, origin 0.
+    pub fn new() -> Self {
+        let mut image = Box::new([0; IMAGE]);
+        ffi::new(&mut image);
+        Segment { image }
+    }
+
+    /// The segment that an image means. Any bytes mean one.
+    pub fn from_image(image: &[u8; IMAGE]) -> Self {
+        Segment { image: Box::new(*image) }
+    }
+
+    /// The segment's image, to be kept or handed on.
+    pub fn as_image(&self) -> &[u8; IMAGE] {
+        &self.image
+    }
+
+    /// Opens the segment of a meter list (see [`list`]) at a bus baud: 300, 600, 1200, 2400, 4800, 9600, 19200 or
+    /// 38400. The segment is built anew. The origin, in seconds, is where the meters' values begin to rise; any value.
+    /// With the practice flag all meters count from the same values, and an own baud that is the bus baud becomes 2400.
+    ///
+    /// # Errors
+    /// 1 to 10, see [`OpenRefusal`]. The former segment stays in use.
+    pub fn open(&mut self, list: &[u8], baud: u32, practice: bool, origin: f64) -> Result<(), OpenRefusal> {
+        OpenRefusal::check(ffi::open(&mut self.image, list, baud, practice, origin))
+    }
+
+    /// Sends a piece of up to 1,024 bytes. It joins the waiting input; complete telegrams are handled in turn, an
+    /// incomplete one waits, an invalid one discards all remaining input. Replies join the queue, except to address FF.
+    ///
+    /// # Errors
+    /// 13 the piece has over 1,024 bytes; 14 a clock field is out of range; 15 the queue would pass 4,096 bytes.
+    pub fn send(&mut self, piece: &[u8], clock: &Clock) -> Result<(), SendRefusal> {
+        SendRefusal::check(ffi::send(&mut self.image, piece, clock))
+    }
+
+    /// Hands out the least of 32, the lent length and the queued bytes, and gives how many; lent bytes past these stay.
+    pub fn receive(&mut self, lent: &mut [u8]) -> usize {
+        ffi::receive(&mut self.image, lent)
+    }
+
+    /// Empties the queue, nothing else.
+    pub fn clear(&mut self) {
+        ffi::clear(&mut self.image);
+    }
+
+    /// Sets the bus baud and empties the waiting input. Only meters at the bus baud listen.
+    ///
+    /// # Errors
+    /// 10 the baud is not one of the eight rates.
+    pub fn set_baud(&mut self, baud: u32) -> Result<(), BaudRefusal> {
+        BaudRefusal::check(ffi::set_baud(&mut self.image, baud))
+    }
+
+    /// Searches for the ids of the meters at bus baud, with an allowance of probes.
+    ///
+    /// # Errors
+    /// 14 a clock field is out of range; 16 the waiting input or the queue is not empty. 17 cannot occur, because
+    /// enough entries are lent.
+    pub fn search(&mut self, clock: &Clock, allowance: u32) -> Result<Found, SearchRefusal> {
+        let mut lent = [Entry::default(); METERS];
+        let Summary { entries, probes, spent } = self.search_into(clock, allowance, &mut lent)?;
+        Ok(Found { entries: lent.into_iter().take(entries).collect(), probes, spent })
+    }
+
+    /// Searches as [`search`](Segment::search) does, and writes the entries into lent ones; further ones stay.
+    ///
+    /// # Errors
+    /// 14 a clock field is out of range; 16 the waiting input or the queue is not empty; 17 fewer entries are lent than
+    /// meters were opened. [`METERS`] are always enough.
+    pub fn search_into(&mut self, clock: &Clock, allowance: u32, lent: &mut [Entry]) -> Result<Summary, SearchRefusal> {
+        let mut rows = [[0; ffi::ENTRY]; METERS];
+        let mut summary = [0; ffi::SUMMARY];
+        // The library is lent as many entries as the caller lends, but never more than can be written.
+        let rows = rows.get_mut(..lent.len().min(METERS)).unwrap_or_default();
+        SearchRefusal::check(ffi::search(&mut self.image, clock, allowance, rows, &mut summary))?;
+        let [n0, n1, n2, n3, p0, p1, p2, p3, spent, ..] = summary;
+        let entries = u32::from_le_bytes([n0, n1, n2, n3]) as usize;
+        for (place, row) in lent.iter_mut().zip(rows.iter()).take(entries) {
+            *place = Entry::read(row);
+        }
+        Ok(Summary { entries, probes: u32::from_le_bytes([p0, p1, p2, p3]), spent: spent != 0 })
+    }
+}
+
+impl Default for Segment {
+    /// [`Segment::new`].
+    fn default() -> Self {
+        Segment::new()
+    }
+}
+
+impl fmt::Debug for Segment {
+    /// Without the image's bytes.
+    fn fmt(&self, f: &mut fmt::Formatter<'_>) -> fmt::Result {
+        f.debug_struct("Segment").finish_non_exhaustive()
+    }
+}

@@ -1,0 +1,105 @@
+//! Any bytes are an image: every call answers on them, and keeps its limits.
+mod common;
+
+use common::{example, opened, two_water, Random, CLOCK, NKE_ALL};
+use jezynar::{Segment, IMAGE, METERS};
+
+/// A probe that every id matches, and REQ_UD2 to the selected meters and to all.
+const TELEGRAMS: [u8; 27] = [
+    0x68, 0x0B, 0x0B, 0x68, 0x53, 0xFD, 0x52, 0xFF, 0xFF, 0xFF, 0xFF, 0xFF, 0xFF, 0xFF, 0xFF, 0x9A, 0x16, 0x10, 0x5B,
+    0xFD, 0x58, 0x16, 0x10, 0x7B, 0xFE, 0x79, 0x16,
+];
+
+/// Makes a call that, where it is refused, must leave the image.
+fn call<T, E>(segment: &mut Segment, call: impl FnOnce(&mut Segment) -> Result<T, E>) -> Option<T> {
+    let before = *segment.as_image();
+    let answer = call(segment).ok();
+    assert!(answer.is_some() || *segment.as_image() == before, "a refused call changed the image");
+    answer
+}
+
+fn receive(segment: &mut Segment) -> usize {
+    let mut lent = [0xAA; 40];
+    let count = segment.receive(&mut lent);
+    assert!(count <= 32 && lent[count..].iter().all(|b| *b == 0xAA));
+    count
+}
+
+/// How many entries a search gives.
+fn search(segment: &mut Segment, allowance: u32) -> usize {
+    let Some(found) = call(segment, |s| s.search(&CLOCK, allowance)) else {
+        return 0;
+    };
+    assert!(found.entries.len() <= METERS && found.probes <= allowance);
+    assert!(!found.spent || found.probes == allowance);
+    for entry in &found.entries {
+        assert!(entry.count >= 1 && entry.digits.iter().all(|d| *d <= 15));
+        assert_eq!(entry.to_string().len(), 8);
+    }
+    assert_eq!(receive(segment), 0);
+    found.entries.len()
+}
+
+/// Every call, from the image and one after another. How many entries the searches of its own meters gave.
+fn every_call(image: &[u8; IMAGE]) -> usize {
+    let from = || Segment::from_image(image);
+    assert!(from().as_image() == image);
+    let mut entries = search(&mut from(), u32::MAX);
+    call(&mut from(), |s| s.send(&TELEGRAMS, &CLOCK));
+    call(&mut from(), |s| s.send(&[0xFF; 1024], &CLOCK));
+    assert!(call(&mut from(), |s| s.open(&two_water(), 9600, true, f64::NAN)).is_some());
+    assert!(call(&mut from(), |s| s.open(&[1, 0, 1], 2400, false, 0.0)).is_none());
+    assert!(call(&mut from(), |s| s.set_baud(2400)).is_some());
+    assert!(call(&mut from(), |s| s.set_baud(2401)).is_none());
+
+    let mut segment = from();
+    receive(&mut segment);
+    segment.clear();
+    assert_eq!(receive(&mut segment), 0);
+    // A byte that starts no telegram discards what waits, if it does not complete it.
+    call(&mut segment, |s| s.send(&[0; 261], &CLOCK));
+    segment.clear();
+    entries += search(&mut segment, 50);
+    entries += search(&mut segment, u32::MAX);
+    call(&mut segment, |s| s.send(&NKE_ALL.repeat(3), &CLOCK));
+    call(&mut segment, |s| s.send(&TELEGRAMS, &CLOCK));
+    while receive(&mut segment) > 0 {}
+    call(&mut segment, |s| s.set_baud(2400));
+    entries += search(&mut segment, u32::MAX);
+    assert!(call(&mut segment, |s| s.open(&two_water(), 2400, false, 0.0)).is_some());
+    assert_eq!(segment.search(&CLOCK, 100).unwrap().entries.len(), 2);
+    entries
+}
+
+#[test]
+fn all_bytes_alike() {
+    let entries: usize = (0..=255).map(|byte| every_call(&[byte; IMAGE])).sum();
+    assert!(entries > 100, "{entries} entries");
+}
+
+#[test]
+fn pseudo_random_bytes() {
+    let mut random = Random(1);
+    let mut image = [0; IMAGE];
+    for _ in 0..300 {
+        random.fill(&mut image);
+        every_call(&image);
+    }
+}
+
+#[test]
+fn images_in_use_with_changed_bytes() {
+    let mut random = Random(2);
+    let mut entries = 0;
+    for name in ["praxis.list", "bauds.list", "faults.list", "worst_case.list", "all_alike.list"] {
+        let segment = opened(&example(name));
+        for round in 0..60 {
+            let mut image = *segment.as_image();
+            for _ in 0..1 + round * 20 {
+                image[random.below(IMAGE)] = random.next() as u8;
+            }
+            entries += every_call(&image);
+        }
+    }
+    assert!(entries > 1000, "{entries} entries");
+}
