@@ -24,7 +24,7 @@ use clock::Clock;
 use frame::Frame;
 use frame::Outcome;
 use hear::Answer;
-use hear::telegrams::concerns;
+use hear::concerns;
 use meter::Meter;
 
 fn is_broadcast(address: u8) -> bool

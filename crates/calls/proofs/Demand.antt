@@ -27,7 +27,8 @@ use Rattle.bus.proofs.Segment.Laws.{lowered as segment-value}
 use Rattle.bus.proofs.Segment.new.Symbol.{routine as new-routine}
 use Rattle.search.specs.declared.EntryRecord.{EntryRecord}
 use Rattle.search.specs.View.{searchedOf}
-use Rattle.search.specs.Walk.{Searched, wholeWalk, searchCall}
+use Rattle.walk.specs.Walk.{wholeWalk}
+use Rattle.search.specs.SearchCall.{Searched, searchCall}
 use Rattle.search.specs.Call.{Call, opening, searching, afterCalls}
 use Rattle.search.specs.Answer.{Answer, Answers}
 use Rattle.search.specs.Demand.{Demanded}

@@ -31,7 +31,7 @@ use Rattle.bus.specs.View.{plainOf}
 use Rattle.bus.proofs.Segment.Laws as segment-laws
 use Rattle.search.specs.declared.EntryRecord.{EntryRecord}
 use Rattle.search.specs.declared.Searched.{Searched}
-use Rattle.search.specs.Walk.{searchCall}
+use Rattle.search.specs.SearchCall.{searchCall}
 use Rattle.search.specs.View.{searchedOf}
 use Rattle.search.proofs.EntryRecord as entry-record
 use Rattle.search.proofs.EntryRecord.Laws as entry-laws

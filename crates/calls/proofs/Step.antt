@@ -28,7 +28,7 @@ use Rattle.bus.proofs.send.Symbol.{routine as send-routine}
 use Rattle.bus.proofs.receive.Symbol.{routine as receive-routine}
 use Rattle.bus.proofs.clear.Symbol.{routine as clear-routine}
 use Rattle.bus.proofs.set_baud.Symbol.{routine as set-baud-routine}
-use Rattle.search.specs.Walk as walk
+use Rattle.search.specs.SearchCall as walk
 use Rattle.search.specs.View.{searchedOf}
 use Rattle.search.specs.Call.{Call, opening, sending, receiving, clearing, changing, searching, afterCall}
 use Rattle.search.specs.Answer.{Answer, opened, sent, received, cleared, changed, searched, Gives}

@@ -16,7 +16,8 @@ use Rattle.bus.proofs.Segment.new.Symbol.{routine as new-routine}
 use Rattle.search.specs.declared.EntryRecord.{EntryRecord}
 use Rattle.search.specs.declared.Searched.{Searched}
 use Rattle.search.specs.View.{searchedOf}
-use Rattle.search.specs.Walk.{wholeWalk, searchCall}
+use Rattle.walk.specs.Walk.{wholeWalk}
+use Rattle.search.specs.SearchCall.{searchCall}
 use Rattle.search.specs.Call.{Call, opening, searching, afterCalls}
 use Rattle.search.specs.Answer.{Answer, Answers}
 use Rattle.search.specs.Demand.{Demanded}

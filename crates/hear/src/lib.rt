@@ -2,15 +2,16 @@
 ghost use mathlib.Core.Path.{_≡_};
 ghost use lib.Ieee.{Float};
 ghost use Rattle.frame.specs.View.{telegramOf};
+ghost use Rattle.values.specs.Values.{digitsOf};
 ghost use Rattle.clock.specs.declared.Clock.{Clock};
 ghost use Rattle.meter.specs.View.{plainMeter};
-ghost use Rattle.hear.specs.Hear.{hear};
+ghost use Rattle.hear.specs.Hear.{hear, concerns};
 ghost use Rattle.hear.specs.View.{heardOf};
 use frame::Frame;
 use meter::Meter;
 
-pub mod steps; // steps.rt: what each telegram does to a meter that listens
-pub mod telegrams; // telegrams.rt: which telegram it is, and whether it is for a meter
+mod steps; // steps.rt: what each telegram does to a meter that listens
+mod telegrams; // telegrams.rt: which telegram it is, and whether it is for a meter
 
 // No reply, one E5, or the readout of the meter as it is then. The bytes of a readout are made by `readout`.
 pub enum Answer {
@@ -41,5 +42,23 @@ pub fn hear(m: Meter, bus: u32, frame: Frame, data: &[u8]) -> Heard
         }
     } else {
         steps::quiet(m)
+    }
+}
+
+// Whether a telegram can do anything to a meter with this primary address, selection and id. It spares the others the step.
+pub fn concerns(frame: Frame, data: &[u8], primary: u8, selected: bool, id: u32) -> bool
+    ensures { λ r. ⌜ r ≡ concerns (telegramOf frame (now («data» .entry))) primary selected (digitsOf id) ⌝ }
+{
+    match frame {
+        Frame::Ack => false,
+        Frame::Short {
+            control: _,
+            address,
+        } => telegrams::reaches(address, primary, selected),
+        Frame::Long {
+            control: _,
+            address,
+            ci,
+        } => telegrams::select_or_target(ci, address, data, primary, selected, id),
     }
 }

@@ -15,7 +15,7 @@ use meter::hearing;
 use meter::matching;
 
 // The meter with no reply.
-pub fn quiet(m: Meter) -> Heard
+pub(crate) fn quiet(m: Meter) -> Heard
     ensures { λ r. ⌜ ((e : Float) (k : Clock) → heardOf e k r ≡ quiet (plainMeter m)) ⌝ }
 {
     Heard {
@@ -25,7 +25,7 @@ pub fn quiet(m: Meter) -> Heard
 }
 
 // The meter with one E5.
-pub fn acknowledged(m: Meter) -> Heard
+fn acknowledged(m: Meter) -> Heard
     ensures { λ r. ⌜ ((e : Float) (k : Clock) → heardOf e k r ≡ answers E5 (plainMeter m)) ⌝ }
 {
     Heard {
@@ -35,7 +35,7 @@ pub fn acknowledged(m: Meter) -> Heard
 }
 
 // SND_NKE at a target.
-pub fn nke(m: Meter, address: u8) -> Heard
+fn nke(m: Meter, address: u8) -> Heard
     ensures { λ r. ⌜ ((e : Float) (k : Clock) → heardOf e k r ≡ nke address (plainMeter m)) ⌝ }
 {
     let n = hearing::put(m);
@@ -50,7 +50,7 @@ pub fn nke(m: Meter, address: u8) -> Heard
 }
 
 // REQ_UD2 at a target.
-pub fn request(m: Meter, fcb: bool) -> Heard
+fn request(m: Meter, fcb: bool) -> Heard
     ensures { λ r. ⌜ ((e : Float) (k : Clock) → heardOf e k r ≡ request fcb e k (plainMeter m)) ⌝ }
 {
     let n = hearing::put(m);
@@ -65,7 +65,7 @@ pub fn request(m: Meter, fcb: bool) -> Heard
 }
 
 // A select: a mask that misses is not put to the meter, so a flaky one does not count it.
-pub fn select(m: Meter, data: &[u8]) -> Heard
+fn select(m: Meter, data: &[u8]) -> Heard
     ensures { λ r. ⌜ ((e : Float) (k : Clock) → heardOf e k r ≡ select (now («data» .entry)) (plainMeter m)) ⌝ }
 {
     if matching::matches(m, data) {
@@ -79,7 +79,7 @@ pub fn select(m: Meter, data: &[u8]) -> Heard
 }
 
 // The other user data at a target: a new primary address, a new rate, a reset. ACK still goes out at the old rate.
-pub fn command(m: Meter, ci: u8, data: &[u8]) -> Heard
+fn command(m: Meter, ci: u8, data: &[u8]) -> Heard
     ensures { λ r. ⌜ ((e : Float) (k : Clock) → heardOf e k r ≡ commanded ci (now («data» .entry)) (plainMeter m)) ⌝ }
 {
     if telegrams::sets_primary(ci, data) {
@@ -96,7 +96,7 @@ pub fn command(m: Meter, ci: u8, data: &[u8]) -> Heard
 
 // ---- telegrams at a meter that listens
 
-pub fn hear_short(m: Meter, control: u8, address: u8) -> Heard
+pub(crate) fn hear_short(m: Meter, control: u8, address: u8) -> Heard
     ensures { λ r. ⌜ ((e : Float) (k : Clock) → heardOf e k r ≡ listens (short control address) e k (plainMeter m)) ⌝ }
 {
     if telegrams::is_nke(control) {
@@ -114,7 +114,7 @@ pub fn hear_short(m: Meter, control: u8, address: u8) -> Heard
     quiet(m)
 }
 
-pub fn hear_long(m: Meter, control: u8, address: u8, ci: u8, data: &[u8]) -> Heard
+pub(crate) fn hear_long(m: Meter, control: u8, address: u8, ci: u8, data: &[u8]) -> Heard
     ensures { λ r. ⌜ ((e : Float) (k : Clock) → heardOf e k r ≡ listens (long control address ci (now («data» .entry))) e k (plainMeter m)) ⌝ }
 {
     if telegrams::is_snd_ud(control) {

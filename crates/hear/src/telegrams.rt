@@ -4,39 +4,37 @@ ghost use mathlib.Core.Bool.{_||_};
 ghost use Prim.Native.Nat.{ℕ};
 ghost use lib.Dec.{eqb};
 ghost use Rattle.frame.specs.Frame.{long};
-ghost use Rattle.frame.specs.View.{telegramOf};
 ghost use Rattle.values.specs.Values.{digitsOf};
 ghost use Rattle.hear.specs.Hear.{isNke, isReqUd2, fcbOf, isSndUd, isSelect, setsPrimary, setsBaud, reaches, target, concerns};
 ghost use Rattle.meter.specs.View.{plainMeter};
-use frame::Frame;
 use meter::Meter;
 use meter::matching::id_matches;
 
-pub fn is_nke(control: u8) -> bool
+pub(crate) fn is_nke(control: u8) -> bool
     ensures { λ r. ⌜ r ≡ isNke control ⌝ }
 {
     control == frame::C_SND_NKE
 }
 
-pub fn is_req_ud2(control: u8) -> bool
+pub(crate) fn is_req_ud2(control: u8) -> bool
     ensures { λ r. ⌜ r ≡ isReqUd2 control ⌝ }
 {
     control & 0xCF == 0x4B
 }
 
-pub fn fcb_of(control: u8) -> bool
+pub(crate) fn fcb_of(control: u8) -> bool
     ensures { λ r. ⌜ r ≡ fcbOf control ⌝ }
 {
     control & frame::FCB != 0
 }
 
-pub fn is_snd_ud(control: u8) -> bool
+pub(crate) fn is_snd_ud(control: u8) -> bool
     ensures { λ r. ⌜ r ≡ isSndUd control ⌝ }
 {
     control & 0xCF == 0x43
 }
 
-pub fn is_select(ci: u8, address: u8) -> bool
+pub(crate) fn is_select(ci: u8, address: u8) -> bool
     ensures { λ r. ⌜ r ≡ isSelect ci address ⌝ }
 {
     if ci == frame::CI_SELECT {
@@ -46,7 +44,7 @@ pub fn is_select(ci: u8, address: u8) -> bool
 }
 
 // A new primary address: the data are 01 7A and the address.
-pub fn sets_primary(ci: u8, data: &[u8]) -> bool
+pub(crate) fn sets_primary(ci: u8, data: &[u8]) -> bool
     ensures { λ r. ⌜ r ≡ setsPrimary ci (now («data» .entry)) ⌝ }
 {
     if ci == frame::CI_DATA_SEND {
@@ -60,7 +58,7 @@ pub fn sets_primary(ci: u8, data: &[u8]) -> bool
 }
 
 // A new rate: B8 to BF, with no data.
-pub fn sets_baud(ci: u8, data: &[u8]) -> bool
+pub(crate) fn sets_baud(ci: u8, data: &[u8]) -> bool
     ensures { λ r. ⌜ r ≡ setsBaud ci (now («data» .entry)) ⌝ }
 {
     if ci < 0xB8 {
@@ -83,7 +81,7 @@ fn is_broadcast(address: u8) -> bool
 }
 
 // FE and FF reach all, FD the selected, any other the meter with this primary address.
-fn reaches(address: u8, primary: u8, selected: bool) -> bool
+pub(crate) fn reaches(address: u8, primary: u8, selected: bool) -> bool
     ensures { λ r. ⌜ r ≡ reaches address primary selected ⌝ }
 {
     if is_broadcast(address) {
@@ -95,14 +93,21 @@ fn reaches(address: u8, primary: u8, selected: bool) -> bool
     primary == address
 }
 
-pub fn is_target(m: Meter, address: u8) -> bool
+pub(crate) fn is_target(m: Meter, address: u8) -> bool
     ensures { λ r. ⌜ r ≡ target address (plainMeter m) ⌝ }
 {
     reaches(address, m.primary, m.selected)
 }
 
 // A select concerns the selected and those whose id it matches; any other telegram its target.
-fn select_or_target(ci: u8, address: u8, data: &[u8], primary: u8, selected: bool, id: u32) -> bool
+pub(crate) fn select_or_target(
+    ci: u8,
+    address: u8,
+    data: &[u8],
+    primary: u8,
+    selected: bool,
+    id: u32,
+) -> bool
     ensures { λ r. ⌜ ((c : ℕ) → r ≡ concerns (long c address ci (now («data» .entry))) primary selected (digitsOf id)) ⌝ }
 {
     if is_select(ci, address) {
@@ -114,26 +119,8 @@ fn select_or_target(ci: u8, address: u8, data: &[u8], primary: u8, selected: boo
     reaches(address, primary, selected)
 }
 
-// Whether a telegram can do anything to a meter with this primary address, selection and id. It spares the others the step.
-pub fn concerns(frame: Frame, data: &[u8], primary: u8, selected: bool, id: u32) -> bool
-    ensures { λ r. ⌜ r ≡ concerns (telegramOf frame (now («data» .entry))) primary selected (digitsOf id) ⌝ }
-{
-    match frame {
-        Frame::Ack => false,
-        Frame::Short {
-            control: _,
-            address,
-        } => reaches(address, primary, selected),
-        Frame::Long {
-            control: _,
-            address,
-            ci,
-        } => select_or_target(ci, address, data, primary, selected, id),
-    }
-}
-
 // Addresses FD and FF, to which an NKE deselects.
-pub fn deselects(to: u8) -> bool
+pub(crate) fn deselects(to: u8) -> bool
     ensures { λ r. ⌜ r ≡ (eqb to 0xFD || eqb to 0xFF) ⌝ }
 {
     if to == frame::ADDR_SELECTED {

@@ -43,6 +43,10 @@ faultOf b = getD (None ∷ Checksum ∷ Truncated ∷ Busy ∷ WrongAddress ∷ 
 abbrev pub lastOf : ℕ → LastFcb
 lastOf b = getD (Never ∷ Clear ∷ []) b Set
 
+-- how many bytes there are: 18 in front, the input's, the queue's, and 25 for each meter that a segment can have
+abbrev pub imageLen : ℕ
+imageLen = 18 + 260 + 4096 + 25 * capacity
+
 -- a meter by its 25 bytes
 unfoldable pub metered : List ℕ → PlainMeter
 metered bs =

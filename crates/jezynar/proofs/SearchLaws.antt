@@ -18,7 +18,7 @@ use Rattle.bus.specs.View.{plainOf}
 use Rattle.bus.specs.declared.Segment.{Segment}
 use Rattle.search.specs.declared.EntryRecord.{EntryRecord}
 use Rattle.search.specs.declared.Core.{Core}
-use Rattle.search.specs.Walk.{Searched, searchCall}
+use Rattle.search.specs.SearchCall.{Searched, searchCall}
 use Rattle.search.specs.View.{noEntry, numberOf, coreGives, Finds}
 use Rattle.image.specs.Image.{imaged}
 use Rattle.jezynar.proofs.TelegramLaws.{four, four-of}

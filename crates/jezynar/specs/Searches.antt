@@ -10,7 +10,7 @@ use Rattle.clock.specs.declared.Clock.{Clock}
 use Rattle.search.specs.declared.Kind.{Kind}
 use Rattle.search.specs.declared.Kind.the-variants.{One, Mute, Many}
 use Rattle.search.specs.declared.EntryRecord.{EntryRecord}
-use Rattle.search.specs.Walk.{Searched, searchCall}
+use Rattle.search.specs.SearchCall.{Searched, searchCall}
 use Rattle.search.specs.View.{noEntry}
 use Rattle.bus.specs.Plain.{Plain}
 use Rattle.image.specs.Image.{imaged}

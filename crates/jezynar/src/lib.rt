@@ -12,7 +12,7 @@ ghost use Rattle.bus.specs.Plain.{blank};
 ghost use Rattle.bus.specs.Calls;
 ghost use Rattle.bus.specs.View.{sendingNumber, changingNumber};
 ghost use Rattle.search.specs.View;
-ghost use Rattle.image.specs.Image.{imaged};
+ghost use Rattle.image.specs.Image.{imaged, imageLen};
 ghost use Rattle.jezynar.specs.Answers.{Answers, Opens, receivedBy};
 ghost use Rattle.jezynar.specs.Searches.{kindByte, entryBytes, rows, flagNumber, summaryOf, searchBy, Searches};
 ghost use Rattle.jezynar.specs.Telegrams.{whyNumber, headOf, Parses, telegramBy, Writes};
@@ -30,12 +30,14 @@ use scenarios::Refusal;
 use search::EntryRecord;
 use search::Kind;
 
+const LEN: usize = IMAGE;
+
 // How many bytes an image has.
 #[no_mangle]
 pub extern "C" fn segment_image_len() -> usize
-    ensures { λ r. ⌜ r ≡ 5974 ⌝ }
+    ensures { λ r. ⌜ r ≡ imageLen ⌝ }
 {
-    IMAGE
+    LEN
 }
 
 // No meters, 2400 Bd, origin 0.

@@ -21,7 +21,7 @@ use Rattle.bus.specs.declared.Segment.{Segment}
 use Rattle.search.specs.declared.EntryRecord.{EntryRecord}
 use Rattle.search.specs.declared.Core.{Core}
 use Rattle.search.specs.View.{coreGives, Finds}
-use Rattle.search.specs.Walk.{Searched, searchCall}
+use Rattle.search.specs.SearchCall.{Searched, searchCall}
 use Rattle.listing_text.specs.Text.{reportOf, refusalOf, Prints}
 use Rattle.listing_text.specs.Listing.{listingClock, lentRecords, listIn, listedSegment, listedSearch, listingText, Lists}
 

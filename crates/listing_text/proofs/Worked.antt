@@ -18,7 +18,8 @@ use Rattle.bus.specs.Plain.{blank, joined}
 use Rattle.bus.specs.Steps.{heardBy, handled, steps, settled}
 use Rattle.bus.specs.Calls.{afterOpening, send}
 use Rattle.clock.specs.Fields.{goodClock}
-use Rattle.search.specs.Walk.{maskDigits, mask, reading, ask, probe, good, idOf, entryOf, read, ten, walk, wholeWalk, searchCall}
+use Rattle.walk.specs.Walk.{maskDigits, mask, reading, ask, probe, good, idOf, entryOf, read, ten, walk, wholeWalk}
+use Rattle.search.specs.SearchCall.{searchCall}
 use Rattle.listing_text.specs.Text.{inDecimal, number, line, firstLine, reportOf, refusalOf}
 use Rattle.listing_text.specs.Listing.{listedSegment, listingClock, lentRecords, listIn, listedSearch, listingText, ListingGives}
 

@@ -14,7 +14,7 @@ use Rattle.bus.specs.Plain.{Plain, blank}
 use Rattle.bus.specs.Calls.{afterOpening}
 use Rattle.search.specs.declared.EntryRecord.{EntryRecord}
 use Rattle.search.specs.declared.Kind.the-variants.{One}
-use Rattle.search.specs.Walk.{Searched, searchCall}
+use Rattle.search.specs.SearchCall.{Searched, searchCall}
 use Rattle.listing_text.specs.Text.{reportOf, refusalOf, Prints}
 
 -- "opens at 2400 without the flag, origin .. 0": the first opening of a segment

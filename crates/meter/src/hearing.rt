@@ -30,7 +30,7 @@ pub fn with_selected(m: Meter, selected: bool) -> Meter
     n
 }
 
-pub fn with_hearing(m: Meter, hearing: bool) -> Meter
+fn with_hearing(m: Meter, hearing: bool) -> Meter
     ensures { λ r. ⌜ plainMeter r ≡ withHearsNext hearing (plainMeter m) ⌝ }
 {
     let mut n = m;

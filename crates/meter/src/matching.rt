@@ -66,24 +66,7 @@ fn byte_fits(mask: u8, own: u8) -> bool
     fits(wide(mask), 0xFF, wide(own))
 }
 
-// The first eight bytes of a select: id, manufacturer, version and medium; fewer match no meter.
-pub fn matches(m: Meter, data: &[u8]) -> bool
-    ensures { λ r. ⌜ r ≡ matches (now («data» .entry)) (plainMeter m) ⌝ }
-{
-    if data.len() < 8 {
-        return false;
-    }
-    if id_fits(data, m.id) {
-        if manufacturer_fits(data[4], data[5], m.manufacturer) {
-            if byte_fits(data[6], m.version) {
-                return byte_fits(data[7], m.medium);
-            }
-        }
-    }
-    false
-}
-
-// The id alone against a select's first bytes.
+// The id alone against a select's bytes; fewer than eight match no meter.
 pub fn id_matches(id: u32, data: &[u8]) -> bool
     ensures { λ r. ⌜ r ≡ idMatches (now («data» .entry)) (digitsOf id) ⌝ }
 {
@@ -91,4 +74,18 @@ pub fn id_matches(id: u32, data: &[u8]) -> bool
         return false;
     }
     id_fits(data, id)
+}
+
+// The first eight bytes of a select: id, manufacturer, version and medium.
+pub fn matches(m: Meter, data: &[u8]) -> bool
+    ensures { λ r. ⌜ r ≡ matches (now («data» .entry)) (plainMeter m) ⌝ }
+{
+    if id_matches(m.id, data) {
+        if manufacturer_fits(data[4], data[5], m.manufacturer) {
+            if byte_fits(data[6], m.version) {
+                return byte_fits(data[7], m.medium);
+            }
+        }
+    }
+    false
 }

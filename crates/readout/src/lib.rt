@@ -48,7 +48,7 @@ fn held_len(d: Data) -> usize
     if n < 87 { n } else { 87 }
 }
 
-pub fn said_len(r: Reply) -> usize
+fn said_len(r: Reply) -> usize
     ensures { λ n. ⌜ SaidLen r n ⌝ }
 {
     let n = r.len;

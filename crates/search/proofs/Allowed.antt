@@ -12,8 +12,9 @@ use Rattle.laws.proofs.Lists.{and-l, and-r}
 use Rattle.clock.specs.declared.Clock.{Clock}
 use Rattle.bus.specs.Plain.{Plain}
 use Rattle.clock.specs.Fields.{goodClock}
+use Rattle.walk.specs.Walk.{wholeWalk}
 use Rattle.search.specs.declared.EntryRecord.{EntryRecord}
-use Rattle.search.specs.Walk.{wholeWalk, Searched, searchRefused, searchGave, searchCall}
+use Rattle.search.specs.SearchCall.{Searched, searchRefused, searchGave, searchCall}
 
 pub record Allowed (k : Clock) (lent : List EntryRecord) (s : Plain) : Type 0 where
   pub clock : goodClock k ≡ true

@@ -15,11 +15,12 @@ use Rattle.bus.specs.Steps.{withInput, withQueue, settled}
 use Rattle.bus.specs.Calls.{send}
 use Rattle.clock.specs.Fields.{goodClock}
 use Rattle.bus.proofs.SendLaws.{send-steps}
+use Rattle.walk.specs.Walk.{Entry, mask, reading, ask, probe, read, entryOf, wholeWalk}
+use Rattle.walk.proofs.Model.{Prefix, no-digit}
+use Rattle.walk.proofs.Program.{walkP, begun, heldRun, whole-held, walk-agree, pushUpTo, push-up-to, held-all}
+use Rattle.walk.proofs.Fits.{Idle, idsAt, probe-inv, read-inv, mask-accepted, reading-accepted, walk-fits-meters}
 use Rattle.search.specs.declared.EntryRecord.{EntryRecord}
-use Rattle.search.specs.Walk.{Entry, mask, reading, ask, probe, read, entryOf, wholeWalk, recordOf}
-use Rattle.search.proofs.Model.{Prefix, no-digit}
-use Rattle.search.proofs.Program.{walkP, begun, heldRun, whole-held, walk-agree, pushUpTo, push-up-to, held-all}
-use Rattle.search.proofs.Fits.{Idle, idsAt, probe-inv, read-inv, mask-accepted, reading-accepted, walk-fits-meters}
+use Rattle.search.specs.SearchCall.{recordOf}
 
 -- a telegram's steps, with nothing that could refuse it
 unfoldable pub askBare : Clock → Telegram → Plain → List ℕ × Plain

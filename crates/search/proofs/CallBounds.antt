@@ -21,12 +21,12 @@ use Rattle.bus.specs.Steps.{withInput, settled}
 use Rattle.bus.specs.Calls.{afterOpening, Done, accepted, refused, send, receive, clear, changeBaud}
 use Rattle.clock.specs.Fields.{goodClock}
 use Rattle.bus.proofs.SendLaws.{Waits, settled-waits}
+use Rattle.walk.proofs.Seen.{WellFormed}
+use Rattle.walk.proofs.Fits.{Idle, well-sized, walk-fits-meters}
 use Rattle.search.specs.declared.EntryRecord.{EntryRecord}
-use Rattle.search.specs.Walk.{Searched, searchCall}
+use Rattle.search.specs.SearchCall.{Searched, searchCall}
 use Rattle.search.specs.Call.{Call, opening, sending, receiving, clearing, changing, searching, afterCall, afterCalls}
-use Rattle.search.proofs.Seen.{WellFormed}
 use Rattle.search.proofs.Allowed.{search-cases}
-use Rattle.search.proofs.Fits.{Idle, well-sized, walk-fits-meters}
 use Rattle.search.proofs.CallLaws.{after-well, blank-well}
 
 -- what waits is the beginning of one telegram; the queue is not over its end

@@ -17,13 +17,14 @@ use Rattle.scenarios.proofs.OpeningLaws.{OpensWell, openList-well}
 use Rattle.bus.specs.Plain.{Plain, blank}
 use Rattle.bus.specs.Calls.{afterOpening, Done, receive, clear, changeBaud}
 use Rattle.bus.proofs.SendLaws.{ids, send-ids}
+use Rattle.walk.specs.Walk.{mask, reading, ask, probe, read, Walked, wholeWalk}
+use Rattle.walk.proofs.Model.{Digits}
+use Rattle.walk.proofs.Seen.{IdDigits, WellFormed}
+use Rattle.walk.proofs.Keeps.{walk-keeps}
+use Rattle.walk.proofs.Upward.{walkDown, whole-down}
 use Rattle.search.specs.declared.EntryRecord.{EntryRecord}
-use Rattle.search.specs.Walk.{mask, reading, ask, probe, read, Walked, wholeWalk, Searched, searchCall}
+use Rattle.search.specs.SearchCall.{Searched, searchCall}
 use Rattle.search.specs.Call.{Call, opening, sending, receiving, clearing, changing, searching, afterCall, afterCalls}
-use Rattle.search.proofs.Model.{Digits}
-use Rattle.search.proofs.Seen.{IdDigits, WellFormed}
-use Rattle.search.proofs.Keeps.{walk-keeps}
-use Rattle.search.proofs.Upward.{walkDown, whole-down}
 use Rattle.search.proofs.Allowed.{search-cases}
 
 -- ---- the ids say it

@@ -9,18 +9,19 @@ use Rattle.laws.specs.Words.{Every}
 use Rattle.laws.proofs.Lists.{every-keep}
 use Rattle.clock.specs.declared.Clock.{Clock}
 use Rattle.bus.specs.Plain.{Plain, blank}
+use Rattle.walk.specs.Walk.{probe, read, Walked, wholeWalk}
+use Rattle.walk.specs.Entries.{atBus, atBusBaud, D, sumTo}
+use Rattle.walk.proofs.Seen.{IdDigits, WellFormed}
+use Rattle.walk.proofs.Bound.{D-le}
+use Rattle.walk.proofs.Price.{steady-by}
+use Rattle.walk.proofs.Upward.{Counted, walk-counted, walkDown, whole-down}
+use Rattle.walk.proofs.Instance.{ready, walk-found}
+use Rattle.walk.proofs.Fits.{well-sized, walk-fits-meters}
 use Rattle.search.specs.declared.EntryRecord.{EntryRecord}
-use Rattle.search.specs.Walk.{probe, read, Walked, wholeWalk, Searched, searchCall}
-use Rattle.search.specs.Entries.{atBus, atBusBaud, D, sumTo}
+use Rattle.search.specs.SearchCall.{Searched, searchCall}
 use Rattle.search.specs.Call.{opening, afterCalls}
 use Rattle.search.specs.Demand.{Demanded, Demand3}
-use Rattle.search.proofs.Seen.{IdDigits, WellFormed}
-use Rattle.search.proofs.Bound.{D-le}
-use Rattle.search.proofs.Price.{steady-by}
-use Rattle.search.proofs.Upward.{Counted, walk-counted, walkDown, whole-down}
 use Rattle.search.proofs.Allowed.{Allowed, allowed-accepted, accepted-allowed}
-use Rattle.search.proofs.Instance.{ready, walk-found}
-use Rattle.search.proofs.Fits.{well-sized, walk-fits-meters}
 use Rattle.search.proofs.CallLaws.{all-well, blank-well}
 
 every-mem : {A : Type 0} (P : A → Type 0) {x : A} {xs : List A} → List·Memᴰ x xs → Every P xs → P x

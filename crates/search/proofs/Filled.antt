@@ -12,7 +12,7 @@ use Rattle.bus.specs.View.{plainOf}
 use Rattle.search.specs.declared.EntryRecord.{EntryRecord}
 use Rattle.search.specs.declared.Core.{Core}
 use Rattle.search.specs.declared.Searched.{Searched}
-use Rattle.search.specs.Walk.{searchCall}
+use Rattle.search.specs.SearchCall.{searchCall}
 use Rattle.search.specs.View.{coreGives, searchedOf, answerOf, entryAt}
 
 abbrev pub filled : Core → List EntryRecord → ℕ → List EntryRecord
@@ -22,7 +22,7 @@ module _ (c : Core) (xs : List EntryRecord) (i : ℕ) where
   copied : Copied xs 0 (c .entries) i (filled c xs i)
   copied = record { is = ap (λ (k : ℕ). take i (c .entries) ++ drop k xs) (sym (zero-add i)) }
 
-  pub filled-next : i < length (c .entries) → i < length xs → set (filled c xs i) i (entryAt c i) ≡ filled c xs (i + 1)
+  pub filled-next : i < length (c .entries) → i < length xs → set (filled c xs i) i (entryAt (c .entries) i) ≡ filled c xs (i + 1)
   filled-next l m = copied-front (copied-more _ copied (omega arith) (omega arith) l refl)
 
   pub filled-length : i ≤ length (c .entries) → i ≤ length xs → length (filled c xs i) ≡ length xs

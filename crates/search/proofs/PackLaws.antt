@@ -14,10 +14,10 @@ use Rattle.meter.specs.Meter.{with}
 use Rattle.meter.specs.View.{plainMeter}
 use Rattle.meter.specs.declared.Meter.{Meter}
 use Rattle.meter.specs.declared.LastFcb.{LastFcb}
+use Rattle.packed.specs.Marks.{bitIf, sweptBy}
+use Rattle.packed.proofs.MarkSweep.{Sweep, sweep-none, sweep-more, sweep-all}
 use Rattle.search.specs.declared.Kind.the-variants.{Many}
-use Rattle.search.specs.Marks.{bitIf, sweptBy}
 use Rattle.search.specs.Packing.{faultBits, markOf, on, lastIn, partIn, standing, seenAs, seenBy, kindIn, countIn}
-use Rattle.search.proofs.MarkSweep.{Sweep, sweep-none, sweep-more, sweep-all}
 
 -- ---- a front number
 

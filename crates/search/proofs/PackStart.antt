@@ -12,9 +12,11 @@ use Rattle.meter.specs.View.{plainMeter}
 use Rattle.meter.specs.declared.Meter.{Meter}
 use Rattle.meter.specs.declared.Fault.{Fault}
 use Rattle.meter.specs.declared.Fault.the-variants.{None, Checksum, Truncated, Busy, WrongAddress, Flaky, TooMany}
-use Rattle.search.specs.Marks.{places, bitIf, sweptBy}
+use Rattle.scenarios.specs.Opening.{capacity}
+use Rattle.packed.specs.Marks.{bitIf, sweptBy}
 use Rattle.search.specs.Packing.{faultBits, idOf, markOf, packed, Bounded, on, stand, standing, seenAs, seenBy}
-use Rattle.search.proofs.MarkLaws.{in-nibble, Bits, bits-kept, bit-if, bit-on, bit-small, Silent, silent-zero}
+use Rattle.search.proofs.BitLaws.{bit-if, bit-on, bit-small}
+use Rattle.search.proofs.MarkLaws.{in-nibble, Bits, bits-kept, Silent, silent-zero}
 use Rattle.search.proofs.PackedProbe.{Holds, AllHold, seenAll}
 
 -- ---- one meter
@@ -127,11 +129,11 @@ module _ (bus : ℕ) where
   module _ (n : ℕ) (ms : List Meter) (b : Every Bounded (take n ms)) where
     pub packed-hold : AllHold bus (map plainMeter (take n ms)) (packed idOf n ms) (packed (markOf bus) n ms)
     unfolding packed
-    packed-hold = all-start n ms (drop n (replicate places 0)) (drop n (replicate places 0)) (silent-zeros n places) b
+    packed-hold = all-start n ms (drop n (replicate capacity 0)) (drop n (replicate capacity 0)) (silent-zeros n capacity) b
 
     pub packed-seen : seenAll bus (map plainMeter (take n ms)) (packed (markOf bus) n ms) ≡ map plainMeter (take n ms)
     unfolding packed
-    packed-seen = all-seen n ms (drop n (replicate places 0)) b
+    packed-seen = all-seen n ms (drop n (replicate capacity 0)) b
 
   -- put back
   pub swept-seen : (n : ℕ) (ss : List ℕ) (ms : List PlainMeter) → length ms ≤ length ss → take n (sweptBy (seenBy bus) n ss ms) ≡ seenAll bus (take n ms) ss

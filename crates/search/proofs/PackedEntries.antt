@@ -5,11 +5,12 @@ use Prim.Native.Nat.{ℕ, zero, suc, _+_, _*_, _/_, _%_, _≤_, _<_}
 use native.Mathlib.Omega.{arith}
 use lib.ListN.{length}
 use Rattle.values.specs.Values.{digitsOf}
+use Rattle.walk.specs.Walk.{one, mute, many}
+use Rattle.walk.proofs.Model.{Prefix}
+use Rattle.packed.specs.Packed.{spanOf}
 use Rattle.search.specs.declared.EntryRecord.{EntryRecord}
-use Rattle.search.specs.Walk.{one, mute, many, recordOf}
-use Rattle.search.specs.Packed.{spanOf}
+use Rattle.search.specs.SearchCall.{recordOf}
 use Rattle.search.specs.Packing.{kindIn, countIn, recordIn}
-use Rattle.search.proofs.Model.{Prefix}
 use Rattle.search.proofs.Ranges.{lowOf, mask-digits, whole-digits}
 
 -- n in front of an id

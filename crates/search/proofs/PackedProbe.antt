@@ -9,8 +9,8 @@ use lib.Dec.{eqb}
 use lib.Ieee.{Float}
 use lib.ListN.{length}
 use Rattle.laws.specs.Words.{if_then_else_, keep, Every}
-use Rattle.meter.specs.PlainMeter.{PlainMeter}
 use Rattle.values.specs.Values.{digitsOf}
+use Rattle.meter.specs.PlainMeter.{PlainMeter}
 use Rattle.clock.specs.declared.Clock.{Clock}
 use Rattle.meter.specs.Meter.{hears, flaky, matches}
 use Rattle.hear.specs.Hear.{Heard, quiet, select, hear}
@@ -18,21 +18,17 @@ use Rattle.hear.proofs.HearLaws.{hear-select}
 use Rattle.scenarios.specs.Opening.{capacity}
 use Rattle.clock.specs.Fields.{goodClock}
 use Rattle.bus.proofs.SendLaws.{atRest}
-use Rattle.search.specs.Walk.{mask, probe}
-use Rattle.search.specs.Entries.{begins}
-use Rattle.search.specs.Marks.{places, bitIf, inside, marked, masked, acked, sweptBy, foldBy}
-use Rattle.search.specs.Packed.{spanOf}
+use Rattle.walk.specs.Walk.{mask, probe}
+use Rattle.walk.specs.Entries.{begins}
+use Rattle.walk.proofs.Model.{Prefix}
+use Rattle.walk.proofs.MaskLaws.{maskData, mask-is, mask-matches}
+use Rattle.walk.proofs.ProbeLaws.{secs, called, probedM, probe-rest}
+use Rattle.packed.specs.Marks.{bitIf, inside, marked, masked, acked, sweptBy, foldBy}
+use Rattle.packed.specs.Packed.{spanOf}
 use Rattle.search.specs.Packing.{on, standing, seenAs}
-use Rattle.search.proofs.Model.{Prefix}
-use Rattle.search.proofs.MaskLaws.{maskData, mask-is, mask-matches}
-use Rattle.search.proofs.ProbeLaws.{secs, called, probedM, probe-rest}
 use Rattle.search.proofs.MarkLaws.{marked-odd, marked-kind, Bits, bits-kept, Silent, silent-marked, select-marked, acknowledged-meter}
-use Rattle.search.proofs.Ranges.{lowOf, inside-begins, digits-eight}
-
--- the places are the capacity
-pub places-are : places ≡ capacity
-unfolding capacity
-places-are = refl
+use Rattle.search.proofs.KeyDigits.{digits-eight}
+use Rattle.search.proofs.Ranges.{lowOf, inside-begins}
 
 -- ---- a meter with its key and its mark
 
@@ -218,11 +214,11 @@ seen-length bus (m ∷ ms) (key ∷ ks) (s ∷ ss) q = ap suc (seen-length bus m
 
 -- `send_mask` is 01's probe: how many acknowledge, and the segment afterwards
 pub probe-packed : (k : Clock) (bus : ℕ) (o : Float) → goodClock k ≡ true → (p : List ℕ) (u : ℕ) → Prefix p → length p + u ≡ 8
-    → (ms : List PlainMeter) (ks ss : List ℕ) → length ms ≤ places → AllHold bus ms ks ss
+    → (ms : List PlainMeter) (ks ss : List ℕ) → length ms ≤ capacity → AllHold bus ms ks ss
     → probe k p (atRest bus o (seenAll bus ms ss))
-    ≡ (foldBy (acked (lowOf p u) (lowOf p u + spanOf u)) 0 places ks ss, atRest bus o (seenAll bus ms (sweptBy (masked (lowOf p u) (lowOf p u + spanOf u)) places ks ss)))
+    ≡ (foldBy (acked (lowOf p u) (lowOf p u + spanOf u)) 0 capacity ks ss, atRest bus o (seenAll bus ms (sweptBy (masked (lowOf p u) (lowOf p u + spanOf u)) capacity ks ss)))
 unfolding capacity
 probe-packed k bus o gc p u w l ms ks ss few q =
     probe-rest k bus o gc p w (seenAll bus ms ss) (seen-eight k bus o p u w l ms ks ss q) (omega (arith, seen-length bus ms ks ss q))
-    ∙ ap₂ (λ n ns. (n, atRest bus o ns)) (sym (all-called k bus o p u w l places 0 ms ks ss few q ∙ zero-add (length (keep (called k bus o p) (seenAll bus ms ss)))))
-    (all-probed k bus o p u w l places ms ks ss few q)
+    ∙ ap₂ (λ n ns. (n, atRest bus o ns)) (sym (all-called k bus o p u w l capacity 0 ms ks ss few q ∙ zero-add (length (keep (called k bus o p) (seenAll bus ms ss)))))
+    (all-probed k bus o p u w l capacity ms ks ss few q)

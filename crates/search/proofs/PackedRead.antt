@@ -1,21 +1,17 @@
 -- Reading the one selected of packed meters is 01's reading of the segment that they stand for: REQ_UD2 goes through send, and the reply is taken whole.
 use mathlib.Core.Path.{_≡_, refl, sym, ap, ap₂, _∙_, subst}
-use mathlib.Core.Bool.{Bool, true, false, _&&_, _||_, not, false≢true, and-false, or-true}
+use mathlib.Core.Bool.{Bool, true, false, _&&_, _||_, not, and-false}
 use mathlib.Core.List.{List, [], _∷_, map}
 use Prim.Native.Nat.{ℕ, zero, suc, _+_, _/_, _%_, _≤_}
 use native.Mathlib.Omega.{arith}
-use lib.Dec.{eqb, leb, ltb}
+use lib.Dec.{eqb}
 use lib.Ieee.{Float}
 use lib.ListN.{length}
-use borrow.Author.Tests.{eqb-true, eqb-false, leb-true, leb-false, lt-ltb, le-ltb}
-use Rattle.laws.proofs.Lists.{and-r}
+use borrow.Author.Tests.{eqb-true}
 use Rattle.laws.specs.Words.{if_then_else_, keep, Every}
-use Rattle.frame.specs.Frame.{parse}
 use Rattle.meter.specs.PlainMeter.{PlainMeter}
 use Rattle.clock.specs.declared.Clock.{Clock}
-use Rattle.meter.specs.declared.Fault.{Fault}
-use Rattle.meter.specs.declared.Fault.the-variants.{None, Checksum, Truncated, Busy, WrongAddress, Flaky, TooMany}
-use Rattle.meter.specs.Meter.{withHearsNext, hears, flaky, put, asked}
+use Rattle.meter.specs.Meter.{hears, put, asked}
 use Rattle.hear.specs.Hear.{Heard, quiet, request}
 use Rattle.readout.specs.Response.{readout}
 use Rattle.hear.proofs.HearLaws.{hear-reading}
@@ -23,19 +19,24 @@ use Rattle.scenarios.specs.Opening.{capacity}
 use Rattle.bus.specs.Plain.{Plain, joined}
 use Rattle.clock.specs.Fields.{goodClock}
 use Rattle.bus.proofs.SendLaws.{atRest}
-use Rattle.search.specs.Walk.{Entry, one, mute, reading, read, entryOf, recordOf}
-use Rattle.search.specs.Entries.{begins, failsBy}
-use Rattle.search.specs.Marks.{places, bitIf, inside, yesOf, marked, masked, acked, readable, readMark, readKey, readBy, sweptBy, foldBy}
-use Rattle.search.specs.Packed.{spanOf}
+use Rattle.walk.specs.Walk.{Entry, one, mute, reading, read, entryOf}
+use Rattle.walk.specs.Entries.{begins, failsBy}
+use Rattle.walk.proofs.Model.{Prefix}
+use Rattle.walk.proofs.ProbeLaws.{secs, asks, readM, read-rest}
+use Rattle.walk.proofs.ReadingLaws.{Nibbles, readout-nibbles}
+use Rattle.packed.specs.Marks.{bitIf, yesOf, readable, readMark, readKey, readBy, sweptBy, foldBy}
+use Rattle.packed.specs.Packed.{spanOf}
+use Rattle.search.specs.SearchCall.{recordOf}
 use Rattle.search.specs.Packing.{on, standing, seenAs, recordIn}
-use Rattle.search.proofs.Model.{Prefix}
-use Rattle.search.proofs.ProbeLaws.{secs, asks, readM, read-rest}
-use Rattle.search.proofs.ReadingLaws.{Nibbles, readout-nibbles}
-use Rattle.search.proofs.MarkLaws.{heard, yes-bit, bit-on, marked-selected, marked-fresh, marked-clear, neverRead, tooMany, Bits, Silent}
-use Rattle.search.proofs.ReadMarks.{put-is, Fresh, bits-read, silent-read, even-read, yes-is, request-marked}
-use Rattle.search.proofs.Ranges.{lowOf, inside-begins, digits-eight, digits-nibbles}
+use Rattle.search.proofs.BitLaws.{bit-on}
+use Rattle.search.proofs.MarkLaws.{yes-bit, Silent}
+use Rattle.search.proofs.ReadMarks.{put-is, bits-read, silent-read, even-read, yes-is, request-marked}
+use Rattle.search.proofs.KeyDigits.{digits-eight, digits-nibbles}
+use Rattle.search.proofs.Ranges.{lowOf}
 use Rattle.search.proofs.PackedEntries.{record-one, record-mute}
-use Rattle.search.proofs.PackedProbe.{Holds, AllHold, seenAll, Keeping, masked-keeps, standing-hears, seen-length}
+use Rattle.search.proofs.PackedProbe.{Holds, AllHold, seenAll, Keeping, standing-hears, seen-length}
+use Rattle.search.proofs.OddMarks.{Selected, IfOdd, AllIfOdd, odds}
+use Rattle.search.proofs.Replies.{readable-is, put-parts, entry-none}
 
 pub read-keeps : Keeping readBy
 unfolding readBy
@@ -49,109 +50,6 @@ read-keeps =
       };
       none = λ key s q. silent-read s q;
     }
-
--- ---- after a mask, an odd mark is one of a meter at bus baud that has the prefix and was reset
-
-pub record Selected (bus : ℕ) (p : List ℕ) (m : PlainMeter) (s : ℕ) : Type 0 where
-  pub bus-baud : eqb (m .baud) bus ≡ true
-  pub fresh : Fresh m s
-  pub has : begins p (m .digits) ≡ true
-
-abbrev pub IfOdd : ℕ → List ℕ → PlainMeter → ℕ → Type 0
-IfOdd bus p m s = on (s % 2) ≡ true → Selected bus p m s
-
-abbrev pub AllIfOdd : ℕ → List ℕ → List PlainMeter → List ℕ → Type 0
-AllIfOdd bus p [] ss = Unit {0}
-AllIfOdd bus p (m ∷ ms) [] = Unit {0}
-AllIfOdd bus p (m ∷ ms) (s ∷ ss) = IfOdd bus p m s × AllIfOdd bus p ms ss
-
-one-odd : (bus : ℕ) (p : List ℕ) (u : ℕ) → Prefix p → length p + u ≡ 8 → (m : PlainMeter) (key s : ℕ) → Holds bus m key s
-    → IfOdd bus p m (masked (lowOf p u) (lowOf p u + spanOf u) key s)
-unfolding masked
-one-odd bus p u w l m key s h odd = go (eqb (m .baud) bus) refl
-  where
-    b : Bool
-    b = inside (lowOf p u) (lowOf p u + spanOf u) key
-
-    t : ℕ
-    t = marked s (bitIf b)
-
-    yes : heard s b ≡ true
-    yes = sym (marked-selected s b) ∙ odd
-
-    go : (a : Bool) → eqb (m .baud) bus ≡ a → Selected bus p m t
-    go true e =
-        record {
-          bus-baud = e;
-          fresh = record {
-            bits = masked-keeps (lowOf p u) (lowOf p u + spanOf u) .meter bus m key s h .bits e;
-            selected = eqb-true (t % 2) 1 odd;
-            fresh = eqb-true (t / 2 % 2) 1 (marked-fresh s b ∙ ap (λ x. on (s / 2 % 2) || x) yes ∙ or-true (on (s / 2 % 2)));
-            clear = omega (arith, eqb-false (t / 8 % 2) 1 (marked-clear s b ∙ ap (λ x. on (s / 8 % 2) && not x) yes ∙ and-false (on (s / 8 % 2))));
-          };
-          has = ap (begins p) (h .digits) ∙ sym (inside-begins p u key w l (h .small)) ∙ and-r (on (s / 16 % 2) || on (s / 4 % 2)) b yes;
-        }
-    go false e = absurd (false≢true (sym (ap₂ (λ x y. (x || y) && b) (h .away e .steady) (h .away e .deaf)) ∙ yes))
-
-pub all-odd : (bus : ℕ) (p : List ℕ) (u : ℕ) → Prefix p → length p + u ≡ 8 → (n : ℕ) (ms : List PlainMeter) (ks ss : List ℕ) → length ms ≤ n → AllHold bus ms ks ss
-    → AllIfOdd bus p ms (sweptBy (masked (lowOf p u) (lowOf p u + spanOf u)) n ks ss)
-all-odd bus p u w l n [] ks ss h q = tt
-all-odd bus p u w l zero (m ∷ ms) ks ss h q = absurd (omega arith)
-all-odd bus p u w l (suc n) (m ∷ ms) [] ss h q = absurd q
-all-odd bus p u w l (suc n) (m ∷ ms) (key ∷ ks) [] h q = absurd q
-all-odd bus p u w l (suc n) (m ∷ ms) (key ∷ ks) (s ∷ ss) h q = (one-odd bus p u w l m key s (q .0), all-odd bus p u w l n ms ks ss (omega arith) (q .1))
-
--- how many marks are odd
-abbrev pub odds : ℕ → List ℕ → List ℕ → ℕ
-odds zero ks ss = 0
-odds (suc n) [] ss = 0
-odds (suc n) (k ∷ ks) [] = 0
-odds (suc n) (k ∷ ks) (s ∷ ss) = s % 2 + odds n ks ss
-
-pub acked-odds : (low high n a : ℕ) (ks ss : List ℕ) → foldBy (acked low high) a n ks ss ≡ a + odds n ks (sweptBy (masked low high) n ks ss)
-unfolding acked
-acked-odds low high zero a ks ss = omega arith
-acked-odds low high (suc n) a [] ss = omega arith
-acked-odds low high (suc n) a (k ∷ ks) [] = omega arith
-acked-odds low high (suc n) a (k ∷ ks) (s ∷ ss) = acked-odds low high n (a + masked low high k s % 2) ks ss ∙ omega arith
-
--- ---- a mark whose reply is good
-
-not-on : (x : ℕ) → x ≤ 1 → eqb x 0 ≡ not (on x)
-not-on zero h = refl
-not-on (suc zero) h = refl
-not-on (suc (suc x)) h = absurd (omega arith)
-
-readable-is : (f : Fault) (s : ℕ) → Bits f s → readable s ≡ not (failsBy f (s / 256 % 256))
-unfolding readable
-readable-is f s k =
-    ap₂ (λ x y. x && (y || ltb (s / 256 % 256) 2)) (not-on (s / 64 % 2) (omega arith) ∙ ap not (k .never)) (not-on (s / 128 % 2) (omega arith) ∙ ap not (k .many))
-    ∙ by f
-  where
-    by : (f : Fault) → (not (neverRead f) && (not (tooMany f) || ltb (s / 256 % 256) 2)) ≡ not (failsBy f (s / 256 % 256))
-    by None = refl
-    by Checksum = refl
-    by Truncated = refl
-    by Busy = refl
-    by WrongAddress = refl
-    by Flaky = refl
-    by TooMany = go (leb 2 (s / 256 % 256)) refl
-      where
-        go : (b : Bool) → leb 2 (s / 256 % 256) ≡ b → ltb (s / 256 % 256) 2 ≡ not b
-        go true e = le-ltb (s / 256 % 256) 2 (leb-true 2 (s / 256 % 256) e)
-        go false e = lt-ltb (s / 256 % 256) 2 (omega (arith, leb-false 2 (s / 256 % 256) e))
-
-put-parts : (n : PlainMeter) → ((put n) .digits ≡ n .digits) × ((put n) .fault ≡ n .fault) × ((put n) .readouts ≡ n .readouts)
-unfolding put
-put-parts n = go (flaky (n .fault))
-  where
-    go : (b : Bool) → let q = (if b then withHearsNext (not (n .hearsNext)) n else n) in (q .digits ≡ n .digits) × (q .fault ≡ n .fault) × (q .readouts ≡ n .readouts)
-    go true = (refl, refl, refl)
-    go false = (refl, refl, refl)
-
-entry-none : (p : List ℕ) → entryOf p [] ≡ mute p
-unfolding entryOf parse
-entry-none p = refl
 
 module _ (k : Clock) (bus : ℕ) (o : Float) (p : List ℕ) (u : ℕ) (w : Prefix p) (l : length p + u ≡ 8) where
   abbrev high : ℕ
@@ -315,12 +213,12 @@ module _ (k : Clock) (bus : ℕ) (o : Float) (p : List ℕ) (u : ℕ) (w : Prefi
 
 -- `read_selected` after a mask that one acknowledged is 01's reading: the entry, and the segment afterwards
 pub read-packed : (k : Clock) (bus : ℕ) (o : Float) → goodClock k ≡ true → (p : List ℕ) (u : ℕ) → Prefix p → length p + u ≡ 8
-    → (ms : List PlainMeter) (ks ss : List ℕ) → length ms ≤ places → AllHold bus ms ks ss → AllIfOdd bus p ms ss → odds places ks ss ≡ 1
+    → (ms : List PlainMeter) (ks ss : List ℕ) → length ms ≤ capacity → AllHold bus ms ks ss → AllIfOdd bus p ms ss → odds capacity ks ss ≡ 1
     → let r = read k p (atRest bus o (seenAll bus ms ss)) in
-    (recordOf (r .0) ≡ recordIn (foldBy readKey (lowOf p u + spanOf u) places ks ss)) × (r .1 ≡ atRest bus o (seenAll bus ms (sweptBy readBy places ks ss)))
+    (recordOf (r .0) ≡ recordIn (foldBy readKey (lowOf p u + spanOf u) capacity ks ss)) × (r .1 ≡ atRest bus o (seenAll bus ms (sweptBy readBy capacity ks ss)))
 unfolding capacity
 read-packed k bus o gc p u w l ms ks ss few q f e =
     let r = read-rest k bus o gc p (seenAll bus ms ss) (omega (arith, seen-length bus ms ks ss q)) in (
-      ap (λ (x : Entry × Plain). recordOf (x .0)) r ∙ all-entry k bus o p u w l places ms ks ss few q f e,
-      ap (λ (x : Entry × Plain). x .1) r ∙ ap (atRest bus o) (all-read k bus o p u w l places ms ks ss few q f),
+      ap (λ (x : Entry × Plain). recordOf (x .0)) r ∙ all-entry k bus o p u w l capacity ms ks ss few q f e,
+      ap (λ (x : Entry × Plain). x .1) r ∙ ap (atRest bus o) (all-read k bus o p u w l capacity ms ks ss few q f),
     )

@@ -12,21 +12,24 @@ use lib.ListN.{length, take, length-append, length-map}
 use Rattle.laws.specs.Words.{if_then_else_}
 use Rattle.meter.specs.PlainMeter.{PlainMeter}
 use Rattle.clock.specs.declared.Clock.{Clock}
+use Rattle.scenarios.specs.Opening.{capacity}
 use Rattle.bus.specs.Plain.{Plain}
 use Rattle.clock.specs.Fields.{goodClock}
 use Rattle.bus.proofs.SendLaws.{atRest}
+use Rattle.walk.specs.Walk.{Entry, many, ten, probe, read, wholeWalk}
+use Rattle.walk.proofs.Model.{Prefix, no-digit, prefix-longer}
+use Rattle.walk.proofs.Program.{RunP, stoppedP, countedP, rowP, notedP, answeredP, probedP, walkP, heldRun, whole-held, pushUpTo, push-up-to}
+use Rattle.packed.specs.Marks.{masked, acked, readKey, readBy, sweptBy, foldBy}
+use Rattle.packed.specs.Packed.{Run, Once, onceR, noteR, countR, pushR, walkR, rowR, spanOf}
+use Rattle.packed.proofs.PackedSteps.{once-stop, once-one, once-other}
 use Rattle.search.specs.declared.EntryRecord.{EntryRecord}
-use Rattle.search.specs.Walk.{Entry, many, ten, probe, read, recordOf, wholeWalk}
-use Rattle.search.specs.Marks.{places, masked, acked, readKey, readBy, sweptBy, foldBy}
-use Rattle.search.specs.Packed.{Run, Once, onceR, noteR, countR, pushR, walkR, rowR, spanOf}
+use Rattle.search.specs.SearchCall.{recordOf}
 use Rattle.search.specs.Packing.{recordIn}
-use Rattle.search.proofs.Model.{Prefix, no-digit, prefix-longer}
-use Rattle.search.proofs.Program.{RunP, stoppedP, countedP, rowP, notedP, answeredP, probedP, walkP, heldRun, whole-held, pushUpTo, push-up-to}
-use Rattle.search.proofs.PackedSteps.{once-stop, once-one, once-other}
 use Rattle.search.proofs.Ranges.{lowOf, low-first, low-next}
 use Rattle.search.proofs.PackedEntries.{record-many}
 use Rattle.search.proofs.PackedProbe.{AllHold, seenAll, all-kept, masked-keeps, probe-packed}
-use Rattle.search.proofs.PackedRead.{read-keeps, all-odd, odds, acked-odds, read-packed}
+use Rattle.search.proofs.OddMarks.{all-odd, odds, acked-odds}
+use Rattle.search.proofs.PackedRead.{read-keeps, read-packed}
 
 -- ---- the digits of a row
 
@@ -41,7 +44,7 @@ ten-from = refl
 -- ---- entries
 
 abbrev push : Entry → List EntryRecord → List EntryRecord
-push e es = pushUpTo places (recordOf e) es
+push e es = pushUpTo capacity (recordOf e) es
 
 map-snoc : (es : List ℕ) (n : ℕ) → map recordIn (es ++ n ∷ []) ≡ map recordIn es ++ recordIn n ∷ []
 map-snoc [] n = refl
@@ -50,8 +53,8 @@ map-snoc (e ∷ es) n = ap (λ r. recordIn e ∷ r) (map-snoc es n)
 push-is : (e : Entry) (n : ℕ) (es : List ℕ) → recordOf e ≡ recordIn n → push e (map recordIn es) ≡ map recordIn (pushR n es)
 unfolding pushR
 push-is e n es h =
-    ap₂ (λ l r. if ltb l places then map recordIn es ++ r ∷ [] else map recordIn es) (length-map es recordIn) h
-    ∙ go (ltb (length es) places)
+    ap₂ (λ l r. if ltb l capacity then map recordIn es ++ r ∷ [] else map recordIn es) (length-map es recordIn) h
+    ∙ go (ltb (length es) capacity)
   where
     go : (b : Bool) → (if b then map recordIn es ++ recordIn n ∷ [] else map recordIn es) ≡ map recordIn (if b then es ++ n ∷ [] else es)
     go true = sym (map-snoc es n)
@@ -59,7 +62,7 @@ push-is e n es h =
 
 -- ---- the walk
 
-module _ (k : Clock) (bus : ℕ) (o : Float) (gc : goodClock k ≡ true) (allowance : ℕ) (ms : List PlainMeter) (ks : List ℕ) (few : length ms ≤ places) where
+module _ (k : Clock) (bus : ℕ) (o : Float) (gc : goodClock k ≡ true) (allowance : ℕ) (ms : List PlainMeter) (ks : List ℕ) (few : length ms ≤ capacity) where
   -- the segment that marks stand for
   abbrev pub abs : List ℕ → Plain
   abs ss = atRest bus o (seenAll bus ms ss)
@@ -96,13 +99,13 @@ module _ (k : Clock) (bus : ℕ) (o : Float) (gc : goodClock k ≡ true) (allowa
     high = lowOf p u + spanOf u
 
     abbrev ss : List ℕ
-    ss = sweptBy (masked low high) places ks (t .marks)
+    ss = sweptBy (masked low high) capacity ks (t .marks)
 
     abbrev count : ℕ
-    count = foldBy (acked low high) 0 places ks (t .marks)
+    count = foldBy (acked low high) 0 capacity ks (t .marks)
 
     good : Good ss
-    good = all-kept (masked low high) (masked-keeps low high) bus places ms ks (t .marks) g
+    good = all-kept (masked low high) (masked-keeps low high) bus capacity ms ks (t .marks) g
 
     module _ (more : ℕ → Run → Run) (more′ : ℕ → Step) (h : (n : ℕ) (r : Run) → 2 ≤ n → Good (r .marks) → Same (more n r) (more′ n (image r))) where
       -- a probe that was paid for, by how many answered
@@ -110,11 +113,11 @@ module _ (k : Clock) (bus : ℕ) (o : Float) (gc : goodClock k ≡ true) (allowa
       by-count paid zero e =
           subst (λ (x : Once). Same (fol more x) (countedP (abs ss) (image t))) (once-other ks allowance low high t paid 0 ss refl (sym e) (λ z. omega arith)) (refl, good)
       by-count paid (suc zero) e =
-          let r = read-packed k bus o gc p u w l ms ks ss few good (all-odd bus p u w l places ms ks (t .marks) few g) (sym (acked-odds low high places 0 ks (t .marks) ∙ zero-add (odds places ks ss)) ∙ e) in
+          let r = read-packed k bus o gc p u w l ms ks ss few good (all-odd bus p u w l capacity ms ks (t .marks) few g) (sym (acked-odds low high capacity 0 ks (t .marks) ∙ zero-add (odds capacity ks ss)) ∙ e) in
           subst (λ (x : Once). Same (fol more x) (let q = read k p (abs ss) in notedP (List EntryRecord) Plain push (probe k) (read k) allowance (q .0) (q .1) (countedP (abs ss) (image t))))
           (once-one ks allowance low high t paid 1 ss refl (sym e) refl) (
-            ap₂ (λ es s. record { entries = es; probes = t .probes + 1; spent = false; state = s }) (sym (push-is ((read k p (abs ss)) .0) (foldBy readKey high places ks ss) (t .entries) (r .0))) (sym (r .1)),
-            all-kept readBy read-keeps bus places ms ks ss good,
+            ap₂ (λ es s. record { entries = es; probes = t .probes + 1; spent = false; state = s }) (sym (push-is ((read k p (abs ss)) .0) (foldBy readKey high capacity ks ss) (t .entries) (r .0))) (sym (r .1)),
+            all-kept readBy read-keeps bus capacity ms ks ss good,
           )
       by-count paid (suc (suc n)) e =
           subst (λ (x : Once). Same (fol more x) (more′ (suc (suc n)) (countedP (abs ss) (image t))))
@@ -167,10 +170,11 @@ module _ (k : Clock) (bus : ℕ) (o : Float) (gc : goodClock k ≡ true) (allowa
   pub whole-same : (ss : List ℕ) → Good ss
       → let t = walkR ks allowance 8 0 (record { entries = []; probes = 0; spent = false; marks = ss }) in
       let v = wholeWalk k allowance (abs ss) in
-      (map recordIn (t .entries) ≡ take places (map recordOf (v .entries))) × (t .probes ≡ v .probes) × (t .spent ≡ v .spent) × (abs (t .marks) ≡ v .segment)
+      (map recordIn (t .entries) ≡ take capacity (map recordOf (v .entries))) × (t .probes ≡ v .probes) × (t .spent ≡ v .spent) × (abs (t .marks) ≡ v .segment)
+  unfolding capacity
   whole-same ss g =
       let t = walkR ks allowance 8 0 (record { entries = []; probes = 0; spent = false; marks = ss }) in
-      let e : image t ≡ heldRun (λ es. take places (map recordOf es)) (wholeWalk k allowance (abs ss)) =
+      let e : image t ≡ heldRun (λ es. take capacity (map recordOf es)) (wholeWalk k allowance (abs ss)) =
       walk-same 8 [] no-digit refl (record { entries = []; probes = 0; spent = false; marks = ss }) g .0
-      ∙ sym (whole-held (List EntryRecord) push (λ es. take places (map recordOf es)) (λ e es. push-up-to recordOf places e es) k allowance (abs ss)) in
+      ∙ sym (whole-held (List EntryRecord) push (λ es. take capacity (map recordOf es)) (λ e es. push-up-to recordOf capacity e es) k allowance (abs ss)) in
       (ap (λ r. r .entries) e, ap (λ r. r .probes) e, ap (λ r. r .spent) e, ap (λ r. r .state) e)

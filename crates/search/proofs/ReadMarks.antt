@@ -13,9 +13,10 @@ use Rattle.meter.specs.declared.Fault.{Fault}
 use Rattle.meter.specs.declared.Fault.the-variants.{None, Checksum, Truncated, Busy, WrongAddress, Flaky, TooMany}
 use Rattle.meter.specs.Meter.{flaky, hears, put, asked, readoutsNow}
 use Rattle.hear.specs.Hear.{Heard, answers, request}
-use Rattle.search.specs.Marks.{bitIf, yesOf, hearsOf, readoutsIn, readMark}
+use Rattle.packed.specs.Marks.{bitIf, yesOf, hearsOf, readoutsIn, readMark}
 use Rattle.search.specs.Packing.{on, stand, standing}
-use Rattle.search.proofs.MarkLaws.{turned, tooMany, Bits, bits-kept, Silent, putB, yes-bit, hears-bit, bit-on, bit-is, bit-small, bit-of}
+use Rattle.search.proofs.BitLaws.{turned, bit-on, bit-is, bit-small, bit-of}
+use Rattle.search.proofs.MarkLaws.{tooMany, Bits, bits-kept, Silent, putB, yes-bit, hears-bit}
 
 -- the readouts that a mark counts
 counted : (x n : ℕ) → x ≤ 1 → (f : Fault) → on x ≡ tooMany f → n < 256

@@ -7,7 +7,7 @@ use Rattle.scenarios.specs.Opening.{OpeningGives, openList}
 use Rattle.bus.specs.Plain.{Plain}
 use Rattle.bus.specs.Calls.{send, receive, changeBaud}
 use Rattle.search.specs.declared.EntryRecord.{EntryRecord}
-use Rattle.search.specs.Walk.{searchCall}
+use Rattle.search.specs.SearchCall.{searchCall}
 use Rattle.search.specs.Call.{Call, opening, sending, receiving, clearing, changing, searching, afterCall}
 
 -- opened: number, index; sent: number; received: count, lent bytes; cleared; changed: number; searched: number, count, probes, spent, lent records

@@ -7,7 +7,7 @@ use Rattle.clock.specs.declared.Clock.{Clock}
 use Rattle.bus.specs.Plain.{Plain}
 use Rattle.bus.specs.Calls.{afterOpening, send, receive, clear, changeBaud}
 use Rattle.search.specs.declared.EntryRecord.{EntryRecord}
-use Rattle.search.specs.Walk.{searchCall}
+use Rattle.search.specs.SearchCall.{searchCall}
 
 -- The six calls with their arguments.
 -- opening: list, bus baud, practice flag, origin; sending: piece, clock; receiving: the lent bytes; clearing; changing: baud; searching: clock, allowance, the lent records

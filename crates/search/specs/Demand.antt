@@ -1,32 +1,18 @@
 -- Demand 3 over the plain segment: "one statement about the whole list, not one for each call".
 use mathlib.Core.Path.{_≡_}
-use mathlib.Core.Logic.{_↔_}
-use mathlib.Core.Bool.{Bool, true, false}
-use mathlib.Core.List.{List, [], _∷_, _++_, map, List·Memᴰ}
-use Prim.Native.Nat.{ℕ, _+_, _*_, _/_, _^_, _≤_, _<_, min}
+use mathlib.Core.Bool.{Bool, true}
+use mathlib.Core.List.{List, _∷_, _++_, map}
+use Prim.Native.Nat.{ℕ, _+_, _*_, _/_, _^_, _≤_, min}
 use lib.Ieee.{Float}
 use lib.ListN.{length, drop}
-use Rattle.laws.specs.Words.{keep}
-use Rattle.meter.specs.PlainMeter.{PlainMeter}
 use Rattle.clock.specs.declared.Clock.{Clock}
 use Rattle.bus.specs.Plain.{Plain, blank}
+use Rattle.walk.specs.Walk.{Walked, wholeWalk}
+use Rattle.walk.specs.Entries.{atBusBaud, NoFlaky, D, sumTo}
+use Rattle.walk.specs.Steady.{Steady}
 use Rattle.search.specs.declared.EntryRecord.{EntryRecord}
-use Rattle.search.specs.Walk.{Entry, Walked, wholeWalk, recordOf, Searched, searchCall}
-use Rattle.search.specs.Entries.{atBusBaud, NoFlaky, D, sumTo, entriesOf, inEntry, Rising}
+use Rattle.search.specs.SearchCall.{recordOf, Searched, searchCall}
 use Rattle.search.specs.Call.{Call, opening, afterCalls}
-
--- A search over the meters ms at bus baud that was not spent: its price, 01's entries, their order, and each meter in exactly one of them
-pub record Complete (ms : List PlainMeter) (w : Walked) : Type 0 where
-  pub probes : w .probes ≡ 1 + 10 * D ms
-  pub entries : w .entries ≡ entriesOf ms
-  pub rising : Rising (w .entries)
-  pub once : (m : PlainMeter) → List·Memᴰ m ms → length (keep (inEntry m) (w .entries)) ≡ 1
-
--- With no flaky meter at bus baud: spent exactly when (`↔`: both ways) the allowance is below the price; a spent one has the first of 01's entries
-pub record Steady (allowance : ℕ) (ms : List PlainMeter) (w : Walked) : Type 0 where
-  pub spent : (w .spent ≡ true) ↔ (allowance < 1 + 10 * D ms)
-  pub sofar : w .spent ≡ true → (rest : List Entry) × (entriesOf ms ≡ w .entries ++ rest)
-  pub complete : w .spent ≡ false → Complete ms w
 
 -- what a search gives, r, on the segment s with the walk w
 pub record Demanded (allowance : ℕ) (lent : List EntryRecord) (s : Plain) (w : Walked) (r : Searched) : Type 0 where

@@ -1,9 +1,6 @@
-pub mod Walk
-pub mod Entries
+pub mod SearchCall
 pub mod Call
 pub mod Answer
 pub mod Demand
-pub mod Marks
-pub mod Packed
 pub mod Packing
 pub mod View

@@ -5,18 +5,19 @@ use Prim.Native.Nat.{ℕ, zero, suc, _+_, _*_, _/_, _%_, _<_}
 use lib.Dec.{eqb}
 use lib.ListN.{take, drop, replicate}
 use Rattle.laws.specs.Words.{if_then_else_}
+use Rattle.values.specs.Values.{digitsOf}
 use Rattle.meter.specs.PlainMeter.{PlainMeter}
 use Rattle.meter.specs.Meter.{with, reached}
-use Rattle.values.specs.Values.{digitsOf}
 use Rattle.meter.specs.declared.Meter.{Meter}
 use Rattle.meter.specs.declared.Fault.{Fault}
 use Rattle.meter.specs.declared.Fault.the-variants.{None, Checksum, Truncated, Busy, WrongAddress, Flaky, TooMany}
 use Rattle.meter.specs.declared.LastFcb.{LastFcb}
 use Rattle.meter.specs.declared.LastFcb.the-variants.{Never, Clear}
+use Rattle.scenarios.specs.Opening.{capacity}
+use Rattle.packed.specs.Marks.{bitIf}
 use Rattle.search.specs.declared.EntryRecord.{EntryRecord}
 use Rattle.search.specs.declared.Kind.{Kind}
 use Rattle.search.specs.declared.Kind.the-variants.{One, Mute, Many}
-use Rattle.search.specs.Marks.{places, bitIf}
 
 -- ---- a meter's mark
 
@@ -42,7 +43,7 @@ idOf m = m .id
 
 -- numbers of the first n meters, 0 past them
 unfoldable pub packed : (Meter → ℕ) → ℕ → List Meter → List ℕ
-packed f n ms = take n (map f ms) ++ drop n (replicate places 0)
+packed f n ms = take n (map f ms) ++ drop n (replicate capacity 0)
 
 -- what the program's types say of a meter
 pub record Bounded (m : Meter) : Type 0 where

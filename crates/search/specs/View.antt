@@ -1,5 +1,5 @@
 -- What the program's searches give, in the terms of the definitions.
-use mathlib.Core.Path.{_≡_}
+use mathlib.Core.Path.{_≡_, refl}
 use mathlib.Core.Bool.{Bool, false, _&&_}
 use mathlib.Core.List.{List, [], _++_, map}
 use Prim.Native.Nat.{ℕ, _≤_, min}
@@ -8,18 +8,19 @@ use lib.ListN.{length, take, drop, getD}
 use Rattle.laws.specs.Words.{Every}
 use Rattle.meter.specs.View.{plainMeter}
 use Rattle.clock.specs.declared.Clock.{Clock}
+use Rattle.scenarios.specs.Opening.{capacity}
 use Rattle.bus.specs.declared.Segment.{Segment}
 use Rattle.bus.specs.View.{plainOf}
+use Rattle.packed.specs.Marks.{sweptBy}
+use Rattle.packed.specs.Packed.{Run, wholeR}
 use Rattle.search.specs.declared.EntryRecord.{EntryRecord}
 use Rattle.search.specs.declared.Outcome.{Outcome}
 use Rattle.search.specs.declared.Outcome.the-variants.{Made, ClockOutOfRange, NotEmpty, TooFewLent}
 use Rattle.search.specs.declared.Kind.the-variants.{One}
 use Rattle.search.specs.declared.Core.{Core}
 use Rattle.search.specs.declared.Searched as answers
-use Rattle.search.specs.Walk as definitions
-use Rattle.search.specs.Walk.{searchCall}
-use Rattle.search.specs.Marks.{places, sweptBy}
-use Rattle.search.specs.Packed.{Run, walkR}
+use Rattle.search.specs.SearchCall as definitions
+use Rattle.search.specs.SearchCall.{searchCall}
 use Rattle.search.specs.Packing.{idOf, markOf, packed, Bounded, seenBy, recordIn}
 
 -- 01's number of an outcome
@@ -40,6 +41,14 @@ coreGives r lent =
       lent = take (r .count) (r .entries) ++ drop (r .count) lent;
       segment = plainOf (r .segment);
     }
+
+-- the places of its array, as a number, and that they are the capacity
+abbrev pub places : ℕ
+places = 64
+
+pub places-are : places ≡ capacity
+unfolding capacity
+places-are = refl
 
 -- A search by value gives what 01's search gives into any `room` records lent; its entries fit both the array and the room.
 pub record Finds (s : Segment) (k : Clock) (allowance room : ℕ) (r : Core) : Type 0 where
@@ -62,9 +71,9 @@ answerOf c = record { outcome = c .outcome; count = c .count; probes = c .probes
 abbrev pub noEntry : EntryRecord
 noEntry = record { kind = One; digits = []; count = 0 }
 
--- its entry at a place
-abbrev pub entryAt : Core → ℕ → EntryRecord
-entryAt c i = getD (c .entries) i noEntry
+-- the entry at a place
+abbrev pub entryAt : List EntryRecord → ℕ → EntryRecord
+entryAt es i = getD es i noEntry
 
 -- ---- the parts of a search by value
 
@@ -83,12 +92,11 @@ pub record Empty (s : Segment) (r : Bool) : Type 0 where
 
 -- the meters there are
 abbrev pub held : Segment → ℕ
-held s = min (s .count) places
+held s = min (s .count) capacity
 
 -- the walk over the packed meters, from the mask with no digit
 unfoldable pub packedRun : Segment → ℕ → Run
-packedRun s allowance =
-    walkR (packed idOf (held s) (s .meters)) allowance 8 0 (record { entries = []; probes = 0; spent = false; marks = packed (markOf (s .baud)) (held s) (s .meters) })
+packedRun s allowance = wholeR (packed idOf (held s) (s .meters)) (packed (markOf (s .baud)) (held s) (s .meters)) allowance
 
 -- a search that was made: what that walk found, and the meters put back; beside it what the types say of the meters
 pub record Walks (s : Segment) (allowance : ℕ) (r : Core) : Type 0 where
@@ -108,6 +116,6 @@ pub record Walks (s : Segment) (allowance : ℕ) (r : Core) : Type 0 where
     queue = s .queue;
     queued = s .queued;
   }
-  pub marks : length ((packedRun s allowance) .marks) ≡ places
+  pub marks : length ((packedRun s allowance) .marks) ≡ capacity
   pub bounded : Every Bounded (take (held s) (s .meters))
-  pub all : length (s .meters) ≡ places
+  pub all : length (s .meters) ≡ capacity

@@ -1,19 +1,18 @@
 // The search: the segment's meters are packed into numbers, the walk runs over these, and what it found is unpacked.
 ghost use mathlib.Core.Path.{_≡_};
 ghost use Prim.Native.Nat.{_<_};
-ghost use lib.ListN.{length, replicate};
+ghost use lib.ListN.{length};
+ghost use Rattle.scenarios.specs.Opening.{capacity};
 ghost use Rattle.bus.specs.View.{plainOf};
-ghost use Rattle.search.specs.Walk.{searchCall};
-ghost use Rattle.search.specs.Marks.{places};
+ghost use Rattle.search.specs.SearchCall.{searchCall};
 ghost use Rattle.search.specs.View.{Empty, held, Walks, Refuses, Finds, answerOf, entryAt, searchedOf};
 use bus::METERS;
 use bus::Segment;
 use clock::Clock;
 use clock::good_clock;
+use packed::walk_all;
 
-mod marks;
 mod pack;
-mod walk;
 
 // An entry as the caller lends it: its kind; the eight digits of its id or mask, most significant first, F for unknown; the E5 counted.
 pub enum Kind {
@@ -61,13 +60,7 @@ fn refused(segment: Segment, outcome: Outcome) -> Core
     }
 }
 
-fn no_entries() -> [u64; METERS]
-    ensures { λ r. ⌜ r ≡ replicate places 0 ⌝ }
-{
-    [0u64; METERS]
-}
-
-// The walk over the packed meters, from the mask with no digit: all eight unknown, every id from 0 on.
+// The meters packed, the walk over them, and what it found and left unpacked.
 fn walk_packed(segment: Segment, allowance: u32) -> Core
     ensures { λ r. ⌜ Walks segment allowance r ⌝ }
 {
@@ -75,25 +68,12 @@ fn walk_packed(segment: Segment, allowance: u32) -> Core
     let count = segment.count;
     let bus = segment.baud;
     let keys = pack::keys_of(meters, count);
-    let mut marks = pack::marks_of(meters, count, bus);
-    let mut entries = no_entries();
-    let start = walk::Walk {
-        found: 0,
-        probes: 0,
-        spent: false,
-    };
-    let w = walk::probe(
-        start,
-        8,
-        allowance,
-        0,
-        0xFFFFFFFF,
-        &keys,
-        &mut marks,
-        &mut entries,
-    );
+    let marks = pack::marks_of(meters, count, bus);
+    let w = walk_all(keys, marks, allowance);
     let found = w.found;
-    let after = pack::unmark_all(meters, count, bus, marks);
+    let left = w.marks;
+    let entries = w.entries;
+    let after = pack::unmark_all(meters, count, bus, left);
     let records = pack::records_of(entries, found);
     let made = Outcome::Made;
     let mut t = segment;
@@ -167,11 +147,11 @@ fn answer(core: Core) -> Searched
     }
 }
 
-fn entry_at(core: Core, i: usize) -> EntryRecord
-    requires { ⌜ i < places ⌝ }
-    ensures { λ r. ⌜ r ≡ entryAt core i ⌝ }
+fn entry_at(entries: [EntryRecord; METERS], i: usize) -> EntryRecord
+    requires { ⌜ i < capacity ⌝ }
+    ensures { λ r. ⌜ r ≡ entryAt entries i ⌝ }
 {
-    core.entries[i]
+    entries[i]
 }
 
 // A search: the entries are written into the lent records, further ones stay. A refused search writes none.
@@ -188,7 +168,7 @@ pub fn search(
     let count = core.count;
     let mut i: usize = 0;
     while i < count {
-        let e = entry_at(core, i);
+        let e = entry_at(core.entries, i);
         entries[i] = e;
         i = i + 1;
     }

@@ -6,15 +6,16 @@ ghost use lib.ListN.{length, take, replicate};
 ghost use Rattle.laws.specs.Words.{Every};
 ghost use Rattle.values.specs.Values.{digitsOf};
 ghost use Rattle.meter.specs.View.{plainMeter};
-ghost use Rattle.search.specs.Marks.{places, sweptBy};
+ghost use Rattle.scenarios.specs.Opening.{capacity};
+ghost use Rattle.packed.specs.Marks.{sweptBy};
 ghost use Rattle.search.specs.Packing.{faultBits, idOf, markOf, Bounded, packed, lastIn, partIn, seenAs, seenBy, kindIn, countIn, recordIn};
 use crate::EntryRecord;
 use crate::Kind;
-use crate::marks::bit;
 use bus::METERS;
 use meter::Fault;
 use meter::LastFcb;
 use meter::Meter;
+use packed::marks::bit;
 
 pub(crate) fn least(a: usize, b: usize) -> usize
     ensures { λ r. ⌜ r ≡ min a b ⌝ }
@@ -23,7 +24,7 @@ pub(crate) fn least(a: usize, b: usize) -> usize
 }
 
 fn zeros() -> [u32; METERS]
-    ensures { λ r. ⌜ r ≡ replicate places 0 ⌝ }
+    ensures { λ r. ⌜ r ≡ replicate capacity 0 ⌝ }
 {
     [0u32; METERS]
 }
@@ -56,7 +57,7 @@ fn mark_of(m: Meter, bus: u32) -> u32
 }
 
 pub(crate) fn keys_of(meters: [Meter; METERS], count: usize) -> [u32; METERS]
-    ensures { λ r. ⌜ r ≡ packed idOf (min count places) meters ⌝ }
+    ensures { λ r. ⌜ r ≡ packed idOf (min count capacity) meters ⌝ }
 {
     let mut keys = zeros();
     let end = least(count, METERS);
@@ -70,7 +71,7 @@ pub(crate) fn keys_of(meters: [Meter; METERS], count: usize) -> [u32; METERS]
 }
 
 pub(crate) fn marks_of(meters: [Meter; METERS], count: usize, bus: u32) -> [u32; METERS]
-    ensures { λ r. ⌜ (r ≡ packed (markOf bus) (min count places) meters) × Every Bounded (take (min count places) meters) × (length meters ≡ places) ⌝ }
+    ensures { λ r. ⌜ (r ≡ packed (markOf bus) (min count capacity) meters) × Every Bounded (take (min count capacity) meters) × (length meters ≡ capacity) ⌝ }
 {
     let mut marks = zeros();
     let end = least(count, METERS);
@@ -145,7 +146,7 @@ pub(crate) fn unmark_all(
     bus: u32,
     marks: [u32; METERS],
 ) -> [Meter; METERS]
-    ensures { λ r. ⌜ map plainMeter r ≡ sweptBy (seenBy bus) (min count places) marks (map plainMeter meters) ⌝ }
+    ensures { λ r. ⌜ map plainMeter r ≡ sweptBy (seenBy bus) (min count capacity) marks (map plainMeter meters) ⌝ }
 {
     let mut ms = meters;
     let end = least(count, METERS);
@@ -218,7 +219,7 @@ pub(crate) fn blank_records() -> [EntryRecord; METERS] {
 }
 
 pub(crate) fn records_of(entries: [u64; METERS], found: usize) -> [EntryRecord; METERS]
-    ensures { λ r. ⌜ take (min found places) r ≡ map recordIn (take (min found places) entries) ⌝ }
+    ensures { λ r. ⌜ take (min found capacity) r ≡ map recordIn (take (min found capacity) entries) ⌝ }
 {
     let mut records = blank_records();
     let end = least(found, METERS);

@@ -22,13 +22,14 @@ use Rattle.bus.specs.Plain.{Plain, blank, joined}
 use Rattle.bus.specs.Steps.{heardBy, handled, steps, settled}
 use Rattle.bus.specs.Calls.{afterOpening, send}
 use Rattle.clock.specs.Fields.{goodClock}
-use Rattle.search.specs.Walk.{one, many, maskDigits, mask, reading, ask, probe, good, idOf, entryOf, read, ten, walk, wholeWalk, searchCall}
-use Rattle.search.specs.Entries.{atBusBaud, D}
+use Rattle.walk.specs.Walk.{one, many, maskDigits, mask, reading, ask, probe, good, idOf, entryOf, read, ten, walk, wholeWalk}
+use Rattle.search.specs.SearchCall.{searchCall}
+use Rattle.walk.specs.Entries.{atBusBaud, D}
 use Rattle.search.specs.declared.EntryRecord.{EntryRecord}
 use Rattle.search.specs.declared.Kind.the-variants.{One}
 use Rattle.search.specs.Call.{opening, afterCall, afterCalls}
 use Rattle.search.specs.Demand.{Demanded}
-use Rattle.search.proofs.Bound.{D-none}
+use Rattle.walk.proofs.Bound.{D-none}
 use Rattle.search.proofs.Demanded.{demanded}
 use Rattle.table.specs.Table.{zeroSeconds, october, opened, walked, outcome, busyAt11, noMeter, oneMeter, twice, Table}
 

@@ -14,8 +14,8 @@ use Rattle.scenarios.specs.Opening.{seedOf}
 use Rattle.scenarios.specs.Builtins.{ok10}
 use Rattle.bus.specs.Plain.{Plain, blank, joined}
 use Rattle.bus.specs.Calls.{afterOpening, send}
-use Rattle.search.specs.Walk.{maskDigits, mask, Entry, one, many, Walked, wholeWalk}
-use Rattle.search.specs.Entries.{atBusBaud, D}
+use Rattle.walk.specs.Walk.{maskDigits, mask, Entry, one, many, Walked, wholeWalk}
+use Rattle.walk.specs.Entries.{atBusBaud, D}
 
 -- 0 s
 abbrev pub zeroSeconds : Float

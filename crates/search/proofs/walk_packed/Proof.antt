@@ -1,8 +1,6 @@
-use Rattle.search.proofs.CoreLaws.{walks}
-use mathlib.Core.Path.{refl}
-use native.Mathlib.Omega.{arith}
-use Rattle.search.specs.Packed.{spanOf}
 use borrow.Author.Needs.{needs}
+use Rattle.scenarios.specs.Opening.{capacity}
+use Rattle.search.proofs.MadeLaws.{walks}
 use Rattle.search.proofs.walk_packed.Statement.{statement}
 use Rattle.search.proofs.walk_packed.Tie as tie
 
@@ -12,12 +10,8 @@ keys-of-requires c κs = search needs
 marks-of-requires : tie.Need-marks-of-requires
 marks-of-requires c κs = search needs
 
-no-entries-requires : tie.Need-no-entries-requires
-no-entries-requires c κs = search needs
-
-probe-requires : tie.Need-probe-requires
-unfolding spanOf
-probe-requires c κs = (record { keys = search needs; marks = search needs; entries = search needs }, refl, omega arith)
+walk-all-requires : tie.Need-walk-all-requires
+walk-all-requires c κs = search needs
 
 unmark-all-requires : tie.Need-unmark-all-requires
 unmark-all-requires c κs = search needs
@@ -29,12 +23,13 @@ least-requires : tie.Need-least-requires
 least-requires c κs = search needs
 
 returns : tie.Need-returns
+unfolding capacity
 returns c =
-    let v = c .before .before .before in
-    let m = v .before .before .before .before .before in
+    let w = c .before .before .before .before .before in
+    let m = w .before in
     let s = m .before .before .before in
-    walks (s .args .segment) (s .args .allowance) _ _ _ _ _ _ _ _ _ (m .before .keys-of .ensures) (m .marks-of .ensures .0) (m .marks-of .ensures .1)
-    (v .probe .ensures .0) (v .probe .ensures .1 .marks) (v .probe .ensures .1 .entries) (c .before .before .unmark-all .ensures) (c .before .records-of .ensures) (c .least .ensures) (m .marks-of .ensures .2)
+    walks (s .args .segment) (s .args .allowance) (w .walk-all .result) _ _ _ _ _ (m .before .keys-of .ensures) (m .marks-of .ensures .0) (m .marks-of .ensures .1)
+    (w .walk-all .ensures) (c .before .before .unmark-all .ensures) (c .before .records-of .ensures) (c .least .ensures) (m .marks-of .ensures .2)
 
 pub walk-packed-spec : {M : Type 1} → statement M
 walk-packed-spec =
@@ -42,8 +37,7 @@ walk-packed-spec =
     (tie.spec
     keys-of-requires
     marks-of-requires
-    no-entries-requires
-    probe-requires
+    walk-all-requires
     unmark-all-requires
     records-of-requires
     least-requires

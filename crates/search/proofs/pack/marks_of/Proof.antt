@@ -4,15 +4,15 @@ use Prim.Native.Nat.{_-_, _≤_, min}
 use native.Mathlib.Omega.{arith}
 use borrow.Author.Needs.{needs}
 use lib.ListN.{length, take, drop}
-use Rattle.search.specs.Marks.{places}
 use Rattle.laws.specs.Words.{Every}
+use Rattle.scenarios.specs.Opening.{capacity}
 use Rattle.search.specs.Packing.{markOf, Bounded, packed}
 use Rattle.search.proofs.PackLaws.{Mapped, mapped-none, mapped-more, mapped-all, every-more}
 use Rattle.search.proofs.pack.marks_of.Statement.{statement}
 use Rattle.search.proofs.pack.marks_of.Tie as tie
 
 abbrev Inv-loop : tie.InvT-loop
-Inv-loop count bus meters marks₀ end i₀ marks i = (i ≤ end) × (end ≤ places) × (length meters ≡ places) × (length marks₀ ≡ places) × Mapped (markOf bus) marks₀ meters i marks × Every Bounded (take i meters)
+Inv-loop count bus meters marks₀ end i₀ marks i = (i ≤ end) × (end ≤ capacity) × (length meters ≡ capacity) × (length marks₀ ≡ capacity) × Mapped (markOf bus) marks₀ meters i marks × Every Bounded (take i meters)
 
 abbrev μ-loop : tie.MeasureT-loop
 μ-loop count bus meters marks₀ end i₀ marks i = end - i
@@ -24,6 +24,7 @@ least-requires : tie.Need-least-requires Inv-loop μ-loop
 least-requires c κs = tt
 
 loop-holds : tie.Need-loop-holds Inv-loop μ-loop
+unfolding capacity
 loop-holds c = (omega arith, omega arith, search needs, search needs, mapped-none, tt)
 
 mul-m : tie.Need-mul-m Inv-loop μ-loop
@@ -63,7 +64,7 @@ unfolding packed
 returns c =
     let l = c .before in
     let s = l .before .before .before in
-    let n = min (s .args .count) places in
+    let n = min (s .args .count) capacity in
     let e : l .loop .i ≡ n = omega arith in
     (mapped-all (l .loop .inv .4) n e ∙ ap (λ d. take n (map (markOf (s .args .bus)) (s .args .t1)) ++ drop n d) (l .before .before .zeros .ensures), subst (λ j. Every Bounded (take j (s .args .t1))) e (l .loop .inv .5), l .loop .inv .2)
 

@@ -3,14 +3,14 @@ use Prim.Native.Nat.{_-_, _≤_, min}
 use native.Mathlib.Omega.{arith}
 use borrow.Author.Needs.{needs}
 use lib.ListN.{length}
-use Rattle.search.specs.Marks.{places}
+use Rattle.scenarios.specs.Opening.{capacity}
 use Rattle.search.specs.Packing.{recordIn}
 use Rattle.search.proofs.PackLaws.{Mapped, mapped-none, mapped-more, mapped-first}
 use Rattle.search.proofs.pack.records_of.Statement.{statement}
 use Rattle.search.proofs.pack.records_of.Tie as tie
 
 abbrev Inv-loop : tie.InvT-loop
-Inv-loop found entries records₀ end i₀ records i = (i ≤ end) × (end ≤ places) × (length entries ≡ places) × (length records₀ ≡ places) × Mapped recordIn records₀ entries i records
+Inv-loop found entries records₀ end i₀ records i = (i ≤ end) × (end ≤ capacity) × (length entries ≡ capacity) × (length records₀ ≡ capacity) × Mapped recordIn records₀ entries i records
 
 abbrev μ-loop : tie.MeasureT-loop
 μ-loop found entries records₀ end i₀ records i = end - i
@@ -22,6 +22,7 @@ least-requires : tie.Need-least-requires Inv-loop μ-loop
 least-requires c κs = tt
 
 loop-holds : tie.Need-loop-holds Inv-loop μ-loop
+unfolding capacity
 loop-holds c = (omega arith, omega arith, search needs, search needs, mapped-none)
 
 mul-record-of : tie.Need-mul-record-of Inv-loop μ-loop
@@ -53,7 +54,7 @@ loop-again c =
 returns : tie.Need-returns Inv-loop μ-loop
 returns c =
     let l = c .before in
-    mapped-first (l .loop .inv .4) (min (l .before .before .before .args .found) places) (omega arith) (omega arith)
+    mapped-first (l .loop .inv .4) (min (l .before .before .before .args .found) capacity) (omega arith) (omega arith)
 
 pub records-of-spec : {M : Type 1} → statement M
 records-of-spec =

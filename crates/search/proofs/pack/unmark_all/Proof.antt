@@ -3,13 +3,13 @@ use Prim.Native.Nat.{_-_, _≤_, min}
 use native.Mathlib.Omega.{arith}
 use borrow.Author.Needs.{needs}
 use lib.ListN.{length, length-set}
-use Rattle.search.specs.Marks.{places}
+use Rattle.scenarios.specs.Opening.{capacity}
 use Rattle.search.proofs.PackLaws.{Unmarked, unmarked-none, unmarked-more, unmarked-all}
 use Rattle.search.proofs.pack.unmark_all.Statement.{statement}
 use Rattle.search.proofs.pack.unmark_all.Tie as tie
 
 abbrev Inv-loop : tie.InvT-loop
-Inv-loop count bus marks ms₀ end i₀ ms i = (i ≤ end) × (end ≤ places) × (length marks ≡ places) × (length ms₀ ≡ places) × (length ms ≡ places) × Unmarked bus marks ms₀ i ms
+Inv-loop count bus marks ms₀ end i₀ ms i = (i ≤ end) × (end ≤ capacity) × (length marks ≡ capacity) × (length ms₀ ≡ capacity) × (length ms ≡ capacity) × Unmarked bus marks ms₀ i ms
 
 abbrev μ-loop : tie.MeasureT-loop
 μ-loop count bus marks ms₀ end i₀ ms i = end - i
@@ -18,6 +18,7 @@ least-requires : tie.Need-least-requires Inv-loop μ-loop
 least-requires c κs = tt
 
 loop-holds : tie.Need-loop-holds Inv-loop μ-loop
+unfolding capacity
 loop-holds c = (omega arith, omega arith, search needs, search needs, search needs, unmarked-none)
 
 mul-m : tie.Need-mul-m Inv-loop μ-loop
@@ -53,7 +54,7 @@ loop-again c =
     (omega arith, l .loop .inv .1, l .loop .inv .2, l .loop .inv .3, rw length-set (l .loop .inv .4), unmarked-more _ _ (l .loop .inv .5) (omega arith) (omega arith) (c .unmark .ensures))
 
 returns : tie.Need-returns Inv-loop μ-loop
-returns c = unmarked-all (min (c .before .before .before .args .count) places) (c .before .loop .inv .5) (omega arith)
+returns c = unmarked-all (min (c .before .before .before .args .count) capacity) (c .before .loop .inv .5) (omega arith)
 
 pub unmark-all-spec : {M : Type 1} → statement M
 unmark-all-spec =

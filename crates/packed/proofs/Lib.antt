@@ -1,0 +1,3 @@
+pub mod MarkSweep
+pub mod PackedPush
+pub mod PackedSteps

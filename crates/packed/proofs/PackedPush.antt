@@ -1,0 +1,20 @@
+-- An entry into the lent array. Assumes nothing.
+use mathlib.Core.Path.{_≡_}
+use mathlib.Core.List.{List}
+use Prim.Native.Nat.{ℕ, _+_, _≤_, _<_}
+use native.Mathlib.Omega.{arith}
+use native.Mathlib.Numerals.{add-one}
+use borrow.Author.Tests.{le-ltb, lt-ltb}
+use lib.ListN.{length, take, set, length-take}
+use lib.Seq.{take-suc-set}
+use Rattle.scenarios.specs.Opening.{capacity}
+use Rattle.packed.specs.Packed.{pushR}
+
+module _ (es : List ℕ) (n e : ℕ) (room : length es ≡ capacity) where
+  pub push-room : n < capacity → take (n + 1) (set es n e) ≡ pushR e (take n es)
+  unfolding pushR
+  push-room h = rw (lt-ltb (length (take n es)) capacity (omega (arith, length-take n es)), add-one) (take-suc-set es n e (omega arith))
+
+  pub push-full : capacity ≤ n → take n es ≡ pushR e (take n es)
+  unfolding pushR
+  push-full h = rw (le-ltb (length (take n es)) capacity (omega (arith, length-take n es)))

@@ -1,0 +1,53 @@
+-- 01, "The search (ours)": the search call, over the walk.
+use mathlib.Core.Bool.{Bool, true, false, _&&_, not}
+use mathlib.Core.List.{List, [], _∷_, _++_, map}
+use Prim.Native.Nat.{ℕ}
+use lib.Dec.{eqb, ltb}
+use lib.ListN.{length, drop}
+use Rattle.laws.specs.Words.{if_then_else_}
+use Rattle.clock.specs.declared.Clock.{Clock}
+use Rattle.bus.specs.Plain.{Plain}
+use Rattle.clock.specs.Fields.{goodClock}
+use Rattle.walk.specs.Walk.{maskDigits, Entry, one, mute, many, Walked, wholeWalk}
+use Rattle.search.specs.declared.EntryRecord.{EntryRecord}
+use Rattle.search.specs.declared.Kind.the-variants.{One, Mute, Many}
+
+-- An entry in the caller's record: its kind, its eight digits (a mute's mask with F for unknown) and the E5 counted.
+-- 01 gives a count for many alone; the 1 of one and mute is ours.
+abbrev pub recordOf : Entry → EntryRecord
+recordOf (one id) = record { kind = One; digits = id; count = 1 }
+recordOf (mute p) = record { kind = Mute; digits = maskDigits p; count = 1 }
+recordOf (many id n) = record { kind = Many; digits = id; count = n }
+
+-- what a search gives: the number of its refusal (0: accepted), how many entries were written, the probes made, spent or not, the lent records and the segment afterwards
+pub record Searched : Type 0 where
+  pub number : ℕ
+  pub count : ℕ
+  pub probes : ℕ
+  pub spent : Bool
+  pub lent : List EntryRecord
+  pub segment : Plain
+
+-- "Each gives its number; segment and lent memory stay." That no entries, no probes and not spent are given is ours.
+abbrev pub searchRefused : ℕ → List EntryRecord → Plain → Searched
+searchRefused n lent s = record { number = n; count = 0; probes = 0; spent = false; lent = lent; segment = s }
+
+-- "Entries are written into entry records that the caller lends; further ones stay. The number of probes made comes back with the list."
+abbrev pub searchGave : List EntryRecord → Walked → Searched
+searchGave lent w =
+    record {
+      number = 0;
+      count = length (w .entries);
+      probes = w .probes;
+      spent = w .spent;
+      lent = map recordOf (w .entries) ++ drop (length (w .entries)) lent;
+      segment = w .segment;
+    }
+
+-- "Search checks 14, 16, 17": a clock field out of range; input or queue not empty; fewer entries lent than meters opened
+unfoldable pub searchCall : Clock → ℕ → List EntryRecord → Plain → Searched
+searchCall k allowance lent s =
+    if not (goodClock k) then searchRefused 14 lent s else
+    if not (eqb (length (s .input)) 0 && eqb (length (s .queue)) 0) then searchRefused 16 lent s else
+    if ltb (length lent) (length (s .meters)) then searchRefused 17 lent s else
+    searchGave lent (wholeWalk k allowance s)
