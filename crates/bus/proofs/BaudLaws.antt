@@ -5,7 +5,7 @@ use mathlib.Core.List.{[]}
 use Prim.Native.Nat.{ℕ}
 use borrow.Author.Tests.{not-true, not-false}
 use Rattle.meter.specs.Meter.{rates}
-use Rattle.scenarios.specs.Tables.{isRate}
+use Rattle.rules.specs.Tables.{isRate}
 use Rattle.bus.specs.Plain.{Plain}
 use Rattle.bus.specs.Calls.{accepted, refused, changeBaud}
 

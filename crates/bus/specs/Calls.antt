@@ -9,7 +9,7 @@ use Rattle.laws.specs.Words.{if_then_else_}
 use Rattle.clock.specs.declared.Clock.{Clock}
 use Rattle.clock.specs.Fields.{goodClock}
 use Rattle.meter.specs.Meter.{rates}
-use Rattle.scenarios.specs.Tables.{isRate}
+use Rattle.rules.specs.Tables.{isRate}
 use Rattle.scenarios.specs.Opening.{opens, refuses, refusesRecord, openList}
 use Rattle.bus.specs.Plain.{Plain}
 use Rattle.bus.specs.Steps.{withInput, withQueue, settled}

@@ -14,7 +14,7 @@ mod queue;
 mod settle;
 
 // As many meters as a segment can have.
-pub const METERS: usize = 64;
+pub const METERS: usize = scenarios::METERS;
 
 pub struct Segment {
     pub meters: [Meter; METERS],
@@ -174,7 +174,7 @@ pub struct Changed {
 pub fn set_baud(segment: Segment, baud: u32) -> Changed
     ensures { λ r. ⌜ changedOf r ≡ Calls.changeBaud baud (plainOf segment) ⌝ }
 {
-    if !scenarios::tables::is_rate(baud) {
+    if !rules::tables::is_rate(baud) {
         return Changed {
             answer: Changing::NoRate,
             segment: segment,

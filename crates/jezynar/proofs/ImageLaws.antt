@@ -12,16 +12,16 @@ use Rattle.laws.specs.Words.{if_then_else_, at}
 use Rattle.laws.proofs.Lists.{if-all, if-with}
 use Rattle.clock.specs.declared.Clock.{Clock}
 use Rattle.meter.specs.Meter.{rates}
-use Rattle.scenarios.specs.Tables.{isRate}
-use Rattle.scenarios.specs.Layout.{Listed, Layout, fits, noFit, readRecords}
-use Rattle.scenarios.specs.Check.{allPass}
+use Rattle.rules.specs.Tables.{isRate}
+use Rattle.meter_list.specs.Layout.{Listed, Layout, fits, noFit, readRecords}
+use Rattle.rules.specs.Check.{allPass}
 use Rattle.scenarios.specs.Opening.{capacity, Opened, opens, refuses, refusesRecord, OpeningGives, openRecords, openList}
 use Rattle.scenarios.specs.Given.{refusalNumber}
 use Rattle.scenarios.specs.declared.Refusal.{Refusal}
 use Rattle.scenarios.specs.declared.Refusal.the-variants.{Accepted, Version, Length, Capacity, AtRecord, Baud}
-use Rattle.scenarios.specs.Checked.{failNumber}
-use Rattle.scenarios.specs.declared.Failing.{Failing}
-use Rattle.scenarios.specs.declared.Failing.the-variants.{BadPrimary, BadId, BadManufacturer, BadMedium, BadBaud, BadFault}
+use Rattle.rules.specs.Checked.{failNumber}
+use Rattle.rules.specs.declared.Failing.{Failing}
+use Rattle.rules.specs.declared.Failing.the-variants.{BadPrimary, BadId, BadManufacturer, BadMedium, BadBaud, BadFault}
 use Rattle.bus.specs.Plain.{Plain}
 use Rattle.bus.specs.Steps.{withInput, settled}
 use Rattle.bus.specs.Calls as calls

@@ -10,9 +10,9 @@ use Rattle.meter.specs.Meter.{hears, put, alike, matches, asked}
 use Rattle.readout.specs.Response.{fixedData, head, clockF, heatFirst, heatSecond, electricity, water, userData, response, damaged, readout}
 use Rattle.hear.specs.Hear.{target, nke, request, select, commanded, listens, hear}
 use Rattle.meter.specs.Meter.{rates}
-use Rattle.scenarios.specs.Tables.{media, faults}
-use Rattle.scenarios.specs.Layout.{readTexts, readRecords}
-use Rattle.scenarios.specs.Check.{goodId, goodMaker, check}
+use Rattle.rules.specs.Tables.{media, faults}
+use Rattle.meter_list.specs.Layout.{readTexts, readRecords}
+use Rattle.rules.specs.Check.{goodId, goodMaker, check}
 use Rattle.scenarios.specs.Opening.{capacity, ownBaud, seedOf, fresh, openRecords, openList}
 use Rattle.bus.specs.Plain.{blank, joined}
 use Rattle.bus.specs.Steps.{heardBy, handled, steps, settled}

@@ -7,16 +7,16 @@ use native.Mathlib.Omega.{arith}
 use lib.ListN.{length, take, drop}
 use lib.Seq.{take-all}
 use Rattle.laws.specs.Sweep.{fold}
-use Rattle.scenarios.specs.Layout.{Listed, Layout, fits, noFit}
-use Rattle.scenarios.specs.Reading.{listedOf, stepAt, atOf}
-use Rattle.scenarios.specs.Checked.{checkedOf}
+use Rattle.meter_list.specs.Layout.{Listed, Layout, fits, noFit}
+use Rattle.meter_list.specs.Reading.{listedOf, stepAt, atOf}
+use Rattle.rules.specs.Checked.{checkedOf}
 use Rattle.scenarios.specs.Gather.{noMeters, joined, admitted, standsAt, gathered, gatheredOf}
-use Rattle.scenarios.specs.declared.Step.{Step}
-use Rattle.scenarios.specs.declared.Step.the-variants.{Record, Bad, End}
+use Rattle.meter_list.specs.declared.Step.{Step}
+use Rattle.meter_list.specs.declared.Step.the-variants.{Record, Bad, End}
 use Rattle.scenarios.specs.declared.Refusal.the-variants.{Accepted}
 use Rattle.scenarios.specs.declared.Meters.{Meters}
-use Rattle.scenarios.proofs.ReadLaws.{more, afterStep}
-use Rattle.scenarios.proofs.CountLaws.{readFrom, from-step}
+use Rattle.meter_list.proofs.ReadLaws.{more, afterStep}
+use Rattle.meter_list.proofs.CountLaws.{readFrom, from-step}
 
 module _ {A : Type 0} where
   take-next : (k : ℕ) (xs : List A) {y : A} {ys : List A} → drop k xs ≡ y ∷ ys → take (suc k) xs ≡ take k xs ++ y ∷ []

@@ -7,12 +7,12 @@ use native.Mathlib.Omega.{arith}
 use Rattle.laws.specs.Words.{Every}
 use Rattle.values.specs.Values.{digitsOf}
 use Rattle.meter.specs.View.{plainMeter}
-use Rattle.scenarios.specs.Layout.{Listed}
-use Rattle.scenarios.specs.Check.{check}
-use Rattle.scenarios.specs.Opening.{textDigits, seedOf, fresh}
-use Rattle.scenarios.specs.Checked.{inBase, valuesOf}
+use Rattle.meter_list.specs.Layout.{Listed}
+use Rattle.rules.specs.Check.{textDigits, check}
+use Rattle.scenarios.specs.Opening.{seedOf, fresh}
+use Rattle.rules.specs.Checked.{inBase, valuesOf}
 use Rattle.scenarios.specs.Gather.{freshOf}
-use Rattle.scenarios.proofs.CheckLaws.{eight}
+use Rattle.rules.proofs.CheckLaws.{eight}
 use Rattle.scenarios.proofs.OpeningLaws.{EightDigits, goodId-digits, check-id}
 
 list-same : {x y : ℕ} {xs ys : List ℕ} → x ≡ y → xs ≡ ys → x ∷ xs ≡ y ∷ ys

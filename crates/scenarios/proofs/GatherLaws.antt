@@ -1,61 +1,83 @@
 -- The reader's steps gathered, by the tests of the program.
-use mathlib.Core.Path.{_≡_, refl, sym, ap, ap₂, _∙_}
-use mathlib.Core.Bool.{Bool, true, false, _&&_, not}
+use mathlib.Core.Path.{_≡_, refl, sym, ap, _∙_}
+use mathlib.Core.Bool.{Bool, true, false}
 use mathlib.Core.List.{List}
-use Prim.Native.Nat.{ℕ, _+_}
+use Prim.Native.Nat.{ℕ, _+_, _≤_, _<_}
 use native.Mathlib.Numerals.{add-one}
-use lib.ListN.{replicate}
+use lib.ListN.{set, replicate}
+use borrow.Author.Tests.{lt-ltb, le-ltb}
 use Rattle.laws.specs.Words.{if_then_else_}
 use Rattle.meter.specs.declared.Meter.{Meter}
-use Rattle.meter.specs.Meter.{rates}
-use Rattle.scenarios.specs.Tables.{isRate}
-use Rattle.scenarios.specs.Given.{rated}
-use Rattle.scenarios.specs.Reading.{listedOf, stepAt, atOf}
-use Rattle.scenarios.specs.Checked.{checkedOf}
+use Rattle.meter_list.specs.Reading.{listedOf, stepAt, atOf}
+use Rattle.rules.specs.Checked.{checkedOf}
 use Rattle.scenarios.specs.Gather.{freshOf, spare, noMeters, isAccepted, put, joined, admitted, standsAt, gathered, gatheredOf}
-use Rattle.scenarios.specs.declared.Listed.{Listed as Placed}
-use Rattle.scenarios.specs.declared.Values.{Values}
-use Rattle.scenarios.specs.declared.Failing.{Failing}
-use Rattle.scenarios.specs.declared.Checked.{Checked}
-use Rattle.scenarios.specs.declared.Checked.the-variants.{Passes, Fails}
-use Rattle.scenarios.specs.declared.Step.{Step}
-use Rattle.scenarios.specs.declared.Step.the-variants.{Record, Bad, End}
+use Rattle.meter_list.specs.declared.Listed.{Listed as Placed}
+use Rattle.rules.specs.declared.Values.{Values}
+use Rattle.rules.specs.declared.Failing.{Failing}
+use Rattle.rules.specs.declared.Checked.{Checked}
+use Rattle.rules.specs.declared.Checked.the-variants.{Passes, Fails}
+use Rattle.meter_list.specs.declared.Step.{Step}
+use Rattle.meter_list.specs.declared.Step.the-variants.{Record, Bad, End}
 use Rattle.scenarios.specs.declared.Refusal.{Refusal}
-use Rattle.scenarios.specs.declared.Refusal.the-variants.{Accepted, AtRecord, Baud}
+use Rattle.scenarios.specs.declared.Refusal.the-variants.{Accepted, AtRecord}
 use Rattle.scenarios.specs.declared.Meters.{Meters}
 
 pub none-is : (r : Refusal) {m : Meter} → m ≡ spare → _≡_ {A = Meters} (record { refusal = r; meters = replicate 64 m; count = 0 }) (noMeters r)
 unfolding noMeters
 none-is r e = ap (λ (m : Meter). record { refusal = r; meters = replicate 64 m; count = 0 }) e
 
-module _ (bus : ℕ) (practice : Bool) (a : Meters) where
-  pub join-pass : (v : Values) {c : Checked} {r : Meters} {m : Meter} → c ≡ Passes v → isAccepted (a .refusal) ≡ true → r ≡ put a m → m ≡ freshOf bus practice v
-      → r ≡ joined bus practice a c
-  unfolding joined
-  join-pass v {c} {r} {m} e h p q =
-      p ∙ ap (put a) q ∙ sym (ap (λ (b : Bool). if b then put a (freshOf bus practice v) else a) h) ∙ ap (joined bus practice a) (sym e)
+-- ---- one step of the reader
 
-  pub join-fail : (f : Failing) {c : Checked} {r : Meters} → c ≡ Fails f → isAccepted (a .refusal) ≡ true → r ≡ noMeters (AtRecord f (a .count)) → r ≡ joined bus practice a c
+module _ (bus : ℕ) (practice : Bool) (a : Meters) where
+  join-pass : (v : Values) → isAccepted (a .refusal) ≡ true → put a (freshOf bus practice v) ≡ joined bus practice a (Passes v)
   unfolding joined
-  join-fail f e h p = p ∙ sym (ap (λ (b : Bool). if b then noMeters (AtRecord f (a .count)) else a) h) ∙ ap (joined bus practice a) (sym e)
+  join-pass v h = sym (ap (λ (b : Bool). if b then put a (freshOf bus practice v) else a) h)
+
+  join-fail : (f : Failing) → isAccepted (a .refusal) ≡ true → noMeters (AtRecord f (a .count)) ≡ joined bus practice a (Fails f)
+  unfolding joined
+  join-fail f h = sym (ap (λ (b : Bool). if b then noMeters (AtRecord f (a .count)) else a) h)
 
   pub join-kept : (c : Checked) → isAccepted (a .refusal) ≡ false → a ≡ joined bus practice a c
   unfolding joined
   join-kept (Passes v) h = sym (ap (λ (b : Bool). if b then put a (freshOf bus practice v) else a) h)
   join-kept (Fails f) h = sym (ap (λ (b : Bool). if b then noMeters (AtRecord f (a .count)) else a) h)
 
-  module _ (s : List ℕ) where
-    pub admit-record : (p : Placed) (n : ℕ) {t : Step} {c : Checked} {r : Meters} → t ≡ Record p n → c ≡ checkedOf (listedOf s p) → r ≡ joined bus practice a c → r ≡ admitted s bus practice a t
-    unfolding admitted
-    admit-record p n e q h = h ∙ ap (joined bus practice a) q ∙ ap (admitted s bus practice a) (sym e)
-
-    pub admit-bad : {t : Step} → t ≡ Bad → a ≡ admitted s bus practice a t
+  module _ (s : List ℕ) {t : Step} where
+    pub admit-bad : t ≡ Bad → a ≡ admitted s bus practice a t
     unfolding admitted
     admit-bad e = ap (admitted s bus practice a) (sym e)
 
-    pub admit-end : {t : Step} → t ≡ End → a ≡ admitted s bus practice a t
+    pub admit-end : t ≡ End → a ≡ admitted s bus practice a t
     unfolding admitted
     admit-end e = ap (admitted s bus practice a) (sym e)
+
+    module _ {p : Placed} {n : ℕ} (e : t ≡ Record p n) where
+      admit-record : {c : Checked} {r : Meters} → c ≡ checkedOf (listedOf s p) → r ≡ joined bus practice a c → r ≡ admitted s bus practice a t
+      unfolding admitted
+      admit-record q h = h ∙ ap (joined bus practice a) q ∙ ap (admitted s bus practice a) (sym e)
+
+      -- refused before
+      pub admit-kept : isAccepted (a .refusal) ≡ false → a ≡ admitted s bus practice a t
+      admit-kept h = admit-record refl (join-kept (checkedOf (listedOf s p)) h)
+
+      module _ (h : isAccepted (a .refusal) ≡ true) {c : Checked} (q : c ≡ checkedOf (listedOf s p)) where
+        pub admit-fail : {f : Failing} {r : Meters} → c ≡ Fails f → r ≡ noMeters (AtRecord f (a .count)) → r ≡ admitted s bus practice a t
+        admit-fail {f} k w = admit-record q (w ∙ join-fail f h ∙ ap (joined bus practice a) (sym k))
+
+        module _ {v : Values} (k : c ≡ Passes v) where
+          admit-pass : {r : Meters} → r ≡ put a (freshOf bus practice v) → r ≡ admitted s bus practice a t
+          admit-pass w = admit-record q (w ∙ join-pass v h ∙ ap (joined bus practice a) (sym k))
+
+          pub admit-put : {m : Meter} → a .count < 64 → m ≡ freshOf bus practice v
+              → _≡_ {A = Meters} (record { refusal = a .refusal; meters = set (a .meters) (a .count) m; count = a .count + 1 }) (admitted s bus practice a t)
+          unfolding put
+          admit-put {m} l w =
+              admit-pass (ap (λ (x : Meter). record { refusal = a .refusal; meters = set (a .meters) (a .count) x; count = a .count + 1 }) w ∙ rw (lt-ltb (a .count) 64 l))
+
+          -- there is no room
+          pub admit-full : 64 ≤ a .count → a ≡ admitted s bus practice a t
+          unfolding put
+          admit-full l = admit-pass (rw (le-ltb (a .count) 64 l))
 
 -- ---- one step more
 
@@ -78,22 +100,3 @@ gathered-next s bus practice i = ap (gathered s bus practice) (sym (add-one i))
 pub gathered-is : (s : List ℕ) (bus : ℕ) (practice : Bool) → gathered s bus practice 64 ≡ gatheredOf s bus practice
 unfolding gatheredOf
 gathered-is s bus practice = refl
-
--- ---- the bus baud
-
-module _ (bus : ℕ) (a : Meters) where
-  pub rate-kept : isAccepted (a .refusal) ≡ false → a ≡ rated bus a
-  unfolding rated
-  rate-kept h = sym (ap (λ (b : Bool). if b && not (isRate rates bus) then noMeters Baud else a) h)
-
-  pub rate-good : isRate rates bus ≡ true → a ≡ rated bus a
-  unfolding rated
-  rate-good k = sym (ap (λ (b : Bool). if isAccepted (a .refusal) && not b then noMeters Baud else a) k ∙ go (isAccepted (a .refusal)))
-    where
-      go : (b : Bool) → (if b && false then noMeters Baud else a) ≡ a
-      go true = refl
-      go false = refl
-
-  pub rate-bad : {r : Meters} → isAccepted (a .refusal) ≡ true → isRate rates bus ≡ false → r ≡ noMeters Baud → r ≡ rated bus a
-  unfolding rated
-  rate-bad h k q = q ∙ sym (ap₂ (λ (b : Bool) (c : Bool). if b && not c then noMeters Baud else a) h k)

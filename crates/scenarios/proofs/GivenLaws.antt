@@ -1,5 +1,5 @@
 -- What the program's opening answers is what the definition allows, case by case.
-use mathlib.Core.Path.{_≡_, refl, sym, ap, subst, _∙_}
+use mathlib.Core.Path.{_≡_, refl, sym, ap, ap₂, subst, _∙_}
 use mathlib.Core.Bool.{Bool, true, false, _&&_, _||_, not}
 use mathlib.Core.List.{List, map}
 use Prim.Native.Nat.{ℕ, _+_, _-_, _*_, _≤_, _<_}
@@ -12,19 +12,19 @@ use Rattle.laws.specs.Words.{if_then_else_, at}
 use Rattle.laws.specs.Sweep.{fold}
 use Rattle.meter.specs.Meter.{rates}
 use Rattle.meter.specs.View.{plainMeter}
-use Rattle.scenarios.specs.Tables.{isRate}
-use Rattle.scenarios.specs.Layout.{Listed, Layout, fits, noFit, readRecords}
-use Rattle.scenarios.specs.Check.{allPass}
+use Rattle.rules.specs.Tables.{isRate}
+use Rattle.meter_list.specs.Layout.{Listed, Layout, fits, noFit, readRecords}
+use Rattle.rules.specs.Check.{allPass}
 use Rattle.scenarios.specs.Opening.{capacity, fresh, Opened, opens, refuses, refusesRecord, metersIn, OpeningGives, openRecords, openList}
-use Rattle.scenarios.specs.Reading.{countOf, shapeOf}
+use Rattle.meter_list.specs.Reading.{countOf, shapeOf}
 use Rattle.scenarios.specs.Gather.{spare, noMeters, isAccepted, gatheredOf}
-use Rattle.scenarios.specs.Given.{refusalNumber, refusalIndex, rated, MetersGiven}
-use Rattle.scenarios.specs.declared.Shape.{Shape}
-use Rattle.scenarios.specs.declared.Shape.the-variants.{Fits, Unversioned, Unfit}
+use Rattle.scenarios.specs.Given.{refusalNumber, refusalIndex, MetersGiven}
+use Rattle.meter_list.specs.declared.Shape.{Shape}
+use Rattle.meter_list.specs.declared.Shape.the-variants.{Fits, Unversioned, Unfit}
 use Rattle.scenarios.specs.declared.Refusal.{Refusal}
 use Rattle.scenarios.specs.declared.Refusal.the-variants.{Accepted, Capacity, Baud}
 use Rattle.scenarios.specs.declared.Meters.{Meters}
-use Rattle.scenarios.proofs.CountLaws.{readFrom}
+use Rattle.meter_list.proofs.CountLaws.{readFrom}
 use Rattle.scenarios.proofs.FoldLaws.{takeIn, gathered-all}
 use Rattle.scenarios.proofs.TakeInLaws.{Under, all-taken, one-stops}
 
@@ -69,6 +69,29 @@ given-over bs bus practice {n} e h q =
     let s = by-shape bs bus practice e in
     let m : 64 < length (s .0) = omega (arith, s .2) in
     given-refused bs bus practice Capacity q (s .3 ∙ rw (lt-ltb 64 (length (s .0)) m)) refl
+
+-- ---- the bus baud
+
+-- the bus baud is judged after the records
+unfoldable pub rated : ℕ → Meters → Meters
+rated bus a = if isAccepted (a .refusal) && not (isRate rates bus) then noMeters Baud else a
+
+module _ (bus : ℕ) (a : Meters) where
+  pub rate-kept : isAccepted (a .refusal) ≡ false → a ≡ rated bus a
+  unfolding rated
+  rate-kept h = sym (ap (λ (b : Bool). if b && not (isRate rates bus) then noMeters Baud else a) h)
+
+  pub rate-good : isRate rates bus ≡ true → a ≡ rated bus a
+  unfolding rated
+  rate-good k = sym (ap (λ (b : Bool). if isAccepted (a .refusal) && not b then noMeters Baud else a) k ∙ go (isAccepted (a .refusal)))
+    where
+      go : (b : Bool) → (if b && false then noMeters Baud else a) ≡ a
+      go true = refl
+      go false = refl
+
+  pub rate-bad : {r : Meters} → isAccepted (a .refusal) ≡ true → isRate rates bus ≡ false → r ≡ noMeters Baud → r ≡ rated bus a
+  unfolding rated
+  rate-bad h k q = q ∙ sym (ap₂ (λ (b : Bool) (c : Bool). if b && not c then noMeters Baud else a) h k)
 
 -- ---- the records
 

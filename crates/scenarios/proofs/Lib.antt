@@ -1,17 +1,9 @@
-pub mod CheckLaws
-pub mod CountLaws
 pub mod FoldLaws
 pub mod FreshLaws
 pub mod GatherLaws
 pub mod GivenLaws
-pub mod KeyLaws
 pub mod Opened
 pub mod OpeningLaws
-pub mod ReadLaws
 pub mod Refusals
-pub mod StepLaws
-pub mod Steps
 pub mod TakeInLaws
-pub mod TextLaws
-pub mod VerdictLaws
 pub mod WriteLaws

@@ -6,10 +6,10 @@ use Prim.Native.Nat.{ℕ}
 use lib.ListN.{length}
 use Rattle.meter.specs.Meter.{rates}
 use Rattle.values.specs.Values.{decimal}
-use Rattle.scenarios.specs.Tables.{media, faults}
+use Rattle.rules.specs.Tables.{media, faults}
 use Rattle.scenarios.specs.Builtins.{praxis, ok10, mfh30, bauds}
-use Rattle.scenarios.specs.Layout.{readTexts, readRecords}
-use Rattle.scenarios.specs.Check.{goodId, goodMaker, check}
+use Rattle.meter_list.specs.Layout.{readTexts, readRecords}
+use Rattle.rules.specs.Check.{goodId, goodMaker, check}
 use Rattle.scenarios.specs.Opening.{capacity, seedOf, Opened, opens, metersIn, openRecords, openList}
 
 -- the list opens, with n meters

@@ -10,10 +10,10 @@ use lib.ListN.{length, drop, length-map}
 use Rattle.laws.specs.Words.{if_then_else_, at, Every}
 use Rattle.laws.proofs.Lists.{if-all, and-l, and-r}
 use Rattle.meter.specs.Meter.{rates}
-use Rattle.scenarios.specs.Tables.{media, faults, isMedium, isFault, isRate}
-use Rattle.scenarios.specs.Layout.{Listed, Layout, fits, noFit, readRecords}
-use Rattle.scenarios.specs.Check.{within, goodId, goodMaker, check, allPass}
-use Rattle.scenarios.specs.Opening.{capacity, textDigits, fresh, Opened, opens, refuses, refusesRecord, openRecords, openList}
+use Rattle.rules.specs.Tables.{media, faults, isMedium, isFault, isRate}
+use Rattle.meter_list.specs.Layout.{Listed, Layout, fits, noFit, readRecords}
+use Rattle.rules.specs.Check.{within, textDigits, goodId, goodMaker, check, allPass}
+use Rattle.scenarios.specs.Opening.{capacity, fresh, Opened, opens, refuses, refusesRecord, openRecords, openList}
 
 -- eight digits, each below ten
 abbrev pub EightDigits : List ℕ → Type 0

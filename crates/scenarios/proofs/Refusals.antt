@@ -4,9 +4,9 @@ use mathlib.Core.Bool.{false}
 use mathlib.Core.List.{List, [], _∷_, _++_}
 use Prim.Native.Nat.{ℕ, zero, suc}
 use Rattle.meter.specs.Meter.{rates}
-use Rattle.scenarios.specs.Tables.{media, faults}
-use Rattle.scenarios.specs.Layout.{Listed, readTexts, readRecords}
-use Rattle.scenarios.specs.Check.{goodId, goodMaker, check}
+use Rattle.rules.specs.Tables.{media, faults}
+use Rattle.meter_list.specs.Layout.{Listed, readTexts, readRecords}
+use Rattle.rules.specs.Check.{goodId, goodMaker, check}
 use Rattle.scenarios.specs.Opening.{capacity, Opened, refuses, refusesRecord, openRecords, openList}
 
 -- a list of one record, refused by it with this number

@@ -15,21 +15,21 @@ use Rattle.laws.specs.Sweep.{fold}
 use Rattle.laws.proofs.Lists.{and-l, and-r}
 use Rattle.meter.specs.PlainMeter.{PlainMeter}
 use Rattle.meter.specs.View.{plainMeter}
-use Rattle.scenarios.specs.Layout.{Listed}
-use Rattle.scenarios.specs.Check.{check, allPass}
+use Rattle.meter_list.specs.Layout.{Listed}
+use Rattle.rules.specs.Check.{check, allPass}
 use Rattle.scenarios.specs.Opening.{fresh}
-use Rattle.scenarios.specs.Checked.{valuesOf, failingOf, checkedOf}
+use Rattle.rules.specs.Checked.{valuesOf, failingOf, checkedOf}
 use Rattle.scenarios.specs.Gather.{freshOf, noMeters, isAccepted, put, joined}
 use Rattle.scenarios.specs.Given.{refusalNumber, refusalIndex}
-use Rattle.scenarios.specs.declared.Checked.{Checked}
-use Rattle.scenarios.specs.declared.Checked.the-variants.{Passes, Fails}
+use Rattle.rules.specs.declared.Checked.{Checked}
+use Rattle.rules.specs.declared.Checked.the-variants.{Passes, Fails}
 use Rattle.scenarios.specs.declared.Refusal.{Refusal}
 use Rattle.scenarios.specs.declared.Refusal.the-variants.{Accepted, AtRecord}
 use Rattle.scenarios.specs.declared.Meters.{Meters}
 use Rattle.scenarios.proofs.FreshLaws.{fresh-plain}
 use Rattle.scenarios.proofs.FoldLaws.{takeIn}
 use Rattle.scenarios.proofs.GatherLaws.{join-kept}
-use Rattle.scenarios.proofs.VerdictLaws.{check-number}
+use Rattle.rules.proofs.VerdictLaws.{check-number}
 
 -- the meters so far
 abbrev pub soFar : Meters → List PlainMeter

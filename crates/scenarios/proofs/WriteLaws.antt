@@ -9,9 +9,9 @@ use lib.Seq.{take-append-seam, drop-append-seam}
 use borrow.Author.Tests.{le-leb, le-ltb, eq-eqb}
 use Rattle.laws.specs.Words.{Every}
 use Rattle.laws.proofs.Lists.{every-append}
-use Rattle.scenarios.specs.Layout.{Listed, texts, firstText, readTexts, fits, made, readRecords}
+use Rattle.meter_list.specs.Layout.{Listed, texts, firstText, readTexts, fits, made, readRecords}
 use Rattle.scenarios.specs.Opening.{openRecords, openList}
-use Rattle.scenarios.specs.Written.{writeTexts, writeRest, writeRecords, writeList, InLayout}
+use Rattle.meter_list.specs.Written.{writeTexts, writeRest, writeRecords, writeList, InLayout}
 
 le-append : (xs ys : List ℕ) → length xs ≤ length (xs ++ ys)
 le-append xs ys = rw length-append (omega arith)

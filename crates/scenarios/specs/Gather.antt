@@ -9,14 +9,14 @@ use Rattle.meter.specs.declared.Fault.the-variants.{None}
 use Rattle.meter.specs.declared.Model.the-variants.{Water}
 use Rattle.meter.specs.declared.LastFcb.the-variants.{Never}
 use Rattle.meter.specs.declared.Meter.{Meter}
-use Rattle.scenarios.specs.Reading.{listedOf, stepAt, atOf}
-use Rattle.scenarios.specs.Checked.{checkedOf}
+use Rattle.meter_list.specs.Reading.{listedOf, stepAt, atOf}
+use Rattle.rules.specs.Checked.{checkedOf}
 use Rattle.scenarios.specs.Opening.{ownBaud}
-use Rattle.scenarios.specs.declared.Values.{Values}
-use Rattle.scenarios.specs.declared.Checked.{Checked}
-use Rattle.scenarios.specs.declared.Checked.the-variants.{Passes, Fails}
-use Rattle.scenarios.specs.declared.Step.{Step}
-use Rattle.scenarios.specs.declared.Step.the-variants.{Record, Bad, End}
+use Rattle.rules.specs.declared.Values.{Values}
+use Rattle.rules.specs.declared.Checked.{Checked}
+use Rattle.rules.specs.declared.Checked.the-variants.{Passes, Fails}
+use Rattle.meter_list.specs.declared.Step.{Step}
+use Rattle.meter_list.specs.declared.Step.the-variants.{Record, Bad, End}
 use Rattle.scenarios.specs.declared.Refusal.{Refusal}
 use Rattle.scenarios.specs.declared.Refusal.the-variants.{Accepted, Version, Length, Capacity, AtRecord, Baud}
 use Rattle.scenarios.specs.declared.Meters.{Meters}

@@ -1,16 +1,12 @@
 -- What the program's opening answers, in the words of 01: a number, an index, and the meters.
 use mathlib.Core.Path.{_≡_}
-use mathlib.Core.Bool.{Bool, _&&_, not}
+use mathlib.Core.Bool.{Bool}
 use mathlib.Core.List.{List, map}
 use Prim.Native.Nat.{ℕ}
 use lib.ListN.{length, take}
-use Rattle.laws.specs.Words.{if_then_else_}
-use Rattle.meter.specs.Meter.{rates}
 use Rattle.meter.specs.View.{plainMeter}
-use Rattle.scenarios.specs.Tables.{isRate}
 use Rattle.scenarios.specs.Opening.{metersIn, OpeningGives, openList}
-use Rattle.scenarios.specs.Checked.{failNumber}
-use Rattle.scenarios.specs.Gather.{isAccepted, noMeters}
+use Rattle.rules.specs.Checked.{failNumber}
 use Rattle.scenarios.specs.declared.Refusal.{Refusal}
 use Rattle.scenarios.specs.declared.Refusal.the-variants.{Accepted, Version, Length, Capacity, AtRecord, Baud}
 use Rattle.scenarios.specs.declared.Meters.{Meters}
@@ -32,10 +28,6 @@ refusalIndex Length = 0
 refusalIndex Capacity = 0
 refusalIndex (AtRecord f i) = i
 refusalIndex Baud = 0
-
--- the bus baud is judged after the records
-unfoldable pub rated : ℕ → Meters → Meters
-rated bus a = if isAccepted (a .refusal) && not (isRate rates bus) then noMeters Baud else a
 
 -- the contract of an opening: number and index are ones that the definition allows, and the meters are the definition's; a refused one has none
 pub record MetersGiven (list : List ℕ) (bus : ℕ) (practice : Bool) (a : Meters) : Type 0 where

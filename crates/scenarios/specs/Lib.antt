@@ -1,11 +1,4 @@
 pub mod Builtins
-pub mod Check
-pub mod Checked
 pub mod Gather
 pub mod Given
-pub mod Keys
-pub mod Layout
 pub mod Opening
-pub mod Reading
-pub mod Tables
-pub mod Written

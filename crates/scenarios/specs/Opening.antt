@@ -10,17 +10,13 @@ use Rattle.values.specs.Values.{makerCode, decimal}
 use Rattle.meter.specs.PlainMeter.{PlainMeter}
 use Rattle.meter.specs.declared.LastFcb.the-variants.{Never}
 use Rattle.meter.specs.Meter.{rates}
-use Rattle.scenarios.specs.Tables.{media, faults, mediumOf, faultOf, isRate}
-use Rattle.scenarios.specs.Layout.{Listed, Layout, fits, noFit, readRecords}
-use Rattle.scenarios.specs.Check.{check, allPass}
+use Rattle.rules.specs.Tables.{media, faults, mediumOf, faultOf, isRate}
+use Rattle.meter_list.specs.Layout.{Listed, Layout, fits, noFit, readRecords}
+use Rattle.rules.specs.Check.{textDigits, check, allPass}
 
 -- "At most 64 meters."
 unfoldable pub capacity : ℕ
 capacity = 64
-
--- the digits of an id's text: "The id's digits are its BCD nibbles"
-abbrev pub textDigits : List ℕ → List ℕ
-textDigits t = map (λ c. c - 0x30) t
 
 -- own baud: "0 = the bus's at opening"; "with it, .. an own baud equal to the bus baud becomes 2400"
 unfoldable pub ownBaud : ℕ → Bool → ℕ → ℕ

@@ -2,22 +2,21 @@
 ghost use mathlib.Core.Path.{_≡_};
 ghost use Prim.Native.Nat.{_+_, _<_};
 ghost use Rattle.scenarios.specs.Opening.{ownBaud};
-ghost use Rattle.scenarios.specs.Checked.{failNumber};
-ghost use Rattle.scenarios.specs.Given.{rated, refusalNumber, refusalIndex};
-ghost use Rattle.scenarios.specs.Gather.{seedFrom, freshOf, spare, noMeters, isAccepted, put, joined, admitted};
-use super::Checked;
-use super::Failing;
+ghost use Rattle.rules.specs.Checked.{failNumber};
+ghost use Rattle.scenarios.specs.Given.{refusalNumber, refusalIndex};
+ghost use Rattle.scenarios.specs.Gather.{seedFrom, freshOf, spare, noMeters, isAccepted, admitted};
 use super::METERS;
 use super::Meters;
 use super::Refusal;
-use super::Step;
-use super::Values;
-use super::check::check;
-use super::tables::is_rate;
 use meter::Fault;
 use meter::LastFcb;
 use meter::Meter;
 use meter::Model;
+use meter_list::Step;
+use rules::Checked;
+use rules::Failing;
+use rules::Values;
+use rules::check::check;
 
 // 0 is the bus's. With the practice flag one equal to the bus baud becomes 2400.
 pub fn own_baud(own: u32, bus: u32, practice: bool) -> u32
@@ -169,63 +168,32 @@ pub fn refusal_index(r: Refusal) -> usize
     }
 }
 
-// One meter more, while there is room.
-pub fn put_meter(acc: Meters, m: Meter) -> Meters
-    ensures { λ r. ⌜ r ≡ put acc m ⌝ }
-{
-    let mut a = acc;
-    let k = a.count;
-    if k < METERS {
-        a.meters[k] = m;
-        a.count = k + 1;
-        return a;
-    }
-    a
-}
-
-// One checked record more. The first that fails refuses the opening.
-pub fn join(acc: Meters, c: Checked, bus: u32, practice: bool) -> Meters
-    ensures { λ r. ⌜ r ≡ joined bus practice acc c ⌝ }
-{
-    let refusal = acc.refusal;
-    let index = acc.count;
-    match c {
-        Checked::Passes(v) => {
-            if is_accepted(refusal) {
-                return put_meter(acc, fresh(v, bus, practice));
-            }
-            acc
-        }
-        Checked::Fails(f) => {
-            if is_accepted(refusal) {
-                return no_meters(Refusal::AtRecord(f, index));
-            }
-            acc
-        }
-    }
-}
-
-// The bus baud is judged after the records.
-pub fn judge_baud(acc: Meters, bus: u32) -> Meters
-    ensures { λ r. ⌜ r ≡ rated bus acc ⌝ }
-{
-    let refusal = acc.refusal;
-    if is_accepted(refusal) {
-        if is_rate(bus) {
-            return acc;
-        }
-        return no_meters(Refusal::Baud);
-    }
-    acc
-}
-
-// One step of the reader more.
+// One step of the reader more. The first record that fails refuses the opening.
 pub fn admit(list: &[u8], bus: u32, practice: bool, acc: Meters, step: Step) -> Meters
     ensures { λ r. ⌜ r ≡ admitted (now (list .entry)) bus practice acc step ⌝ }
 {
+    let mut a = acc;
     match step {
-        Step::Record(r, _) => join(acc, check(list, r), bus, practice),
-        Step::Bad => acc,
-        Step::End => acc,
+        Step::Record(r, _) => {
+            let refusal = a.refusal;
+            if is_accepted(refusal) {
+                let k = a.count;
+                match check(list, r) {
+                    Checked::Passes(v) => {
+                        if k < METERS {
+                            let m = fresh(v, bus, practice);
+                            a.meters[k] = m;
+                            a.count = k + 1;
+                        }
+                    }
+                    Checked::Fails(f) => {
+                        return no_meters(Refusal::AtRecord(f, k));
+                    }
+                }
+            }
+        }
+        Step::Bad => {}
+        Step::End => {}
     }
+    a
 }

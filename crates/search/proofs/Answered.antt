@@ -10,9 +10,9 @@ use borrow.Author.Tests.{eqb-false}
 use Rattle.laws.specs.Words.{if_then_else_, at}
 use Rattle.laws.proofs.Lists.{if-all}
 use Rattle.meter.specs.Meter.{rates}
-use Rattle.scenarios.specs.Tables.{isRate}
-use Rattle.scenarios.specs.Layout.{Listed, Layout, fits, noFit, readRecords}
-use Rattle.scenarios.specs.Check.{check, allPass}
+use Rattle.rules.specs.Tables.{isRate}
+use Rattle.meter_list.specs.Layout.{Listed, Layout, fits, noFit, readRecords}
+use Rattle.rules.specs.Check.{check, allPass}
 use Rattle.scenarios.specs.Opening.{OpeningGives, capacity, fresh, Opened, opens, refuses, refusesRecord, openRecords, openList}
 use Rattle.bus.specs.Plain.{Plain}
 use Rattle.search.specs.Call.{Call, opening, sending, receiving, clearing, changing, searching, afterCall}

@@ -14,7 +14,7 @@ use Rattle.frame.specs.Frame.{parse}
 use Rattle.frame.proofs.Waiting.{Bytes, waiting-short}
 use Rattle.clock.specs.declared.Clock.{Clock}
 use Rattle.meter.specs.Meter.{rates}
-use Rattle.scenarios.specs.Tables.{isRate}
+use Rattle.rules.specs.Tables.{isRate}
 use Rattle.scenarios.specs.Opening.{Opened, opens, refuses, refusesRecord, openList}
 use Rattle.bus.specs.Plain.{Plain, blank}
 use Rattle.bus.specs.Steps.{withInput, settled}

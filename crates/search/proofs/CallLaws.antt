@@ -11,7 +11,7 @@ use Rattle.laws.proofs.Lists.{if-all, every-map, every-image, every-back}
 use Rattle.frame.specs.Frame.{Telegram, encode}
 use Rattle.clock.specs.declared.Clock.{Clock}
 use Rattle.meter.specs.Meter.{rates}
-use Rattle.scenarios.specs.Tables.{isRate}
+use Rattle.rules.specs.Tables.{isRate}
 use Rattle.scenarios.specs.Opening.{Opened, opens, refuses, refusesRecord, openList, capacity}
 use Rattle.scenarios.proofs.OpeningLaws.{OpensWell, openList-well}
 use Rattle.bus.specs.Plain.{Plain, blank}

@@ -3,7 +3,7 @@
 -- Assumes nothing.
 use mathlib.Core.Path.{_≡_, refl, sym, ap, subst, _∙_}
 use Prim.Native.Nat.{ℕ, _+_, _-_, _≤_, _<_, _^_, zero-le}
-use native.Mathlib.Nat.{le-antisymm, le-trans, lt-of-le-of-lt}
+use native.Mathlib.Nat.{le-antisymm, lt-of-le-of-lt}
 use native.Mathlib.Numerals.{add-one-le, add-one-dec}
 use mathlib.Core.WellFounded.{WellFounded, InvImage·wf}
 use mathlib.Core.List.{List, [], _∷_, head-eq-of-cons-eq}
@@ -47,30 +47,30 @@ use denote.Triple.Table.{entered, cited}
 use denote.Triple.Walked.{says, Stays, stay-none, stay-none-slice, walkOf, goes-none, goes-none-slice, Walks, ends-at, walked, walk-meets}
 use denote.Exit.{yes}
 use denote.Triple.Clauses.{ensured, lasts}
-use Rattle.scenarios.specs.Reading.{stepAt, nextOf}
+use Rattle.meter_list.specs.Reading.{stepAt, nextOf}
 use Rattle.scenarios.specs.Gather.{noMeters, admitted, standsAt, gathered, gatheredOf}
-use Rattle.scenarios.specs.declared.Reader.{Reader}
-use Rattle.scenarios.specs.declared.Read.{Read}
-use Rattle.scenarios.specs.declared.Step.{Step}
+use Rattle.meter_list.specs.declared.Reader.{Reader}
+use Rattle.meter_list.specs.declared.Read.{Read}
+use Rattle.meter_list.specs.declared.Step.{Step}
 use Rattle.scenarios.proofs.GatherLaws.{stands-first, stands-next, gathered-first, gathered-next, gathered-is}
 use Rattle.scenarios.specs.declared.Refusal.the-variants.{Accepted}
 use Rattle.scenarios.specs.declared.Meters.{Meters}
 use Rattle.scenarios.proofs.Meters as AC
 use Rattle.scenarios.proofs.Meters.Laws as AC′
-use Rattle.scenarios.proofs.Reader as T
-use Rattle.scenarios.proofs.Reader.Laws as T′
-use Rattle.scenarios.proofs.Read as RD
-use Rattle.scenarios.proofs.Read.Laws as RD′
-use Rattle.scenarios.proofs.Step as S
-use Rattle.scenarios.proofs.Step.Laws as S′
-use Rattle.scenarios.proofs.new as new
-use Rattle.scenarios.proofs.new.Symbol as new-def
-use Rattle.scenarios.proofs.new.Symbol.{name as #scenarios·new}
-use Rattle.scenarios.proofs.new.Met as new-thm
-use Rattle.scenarios.proofs.next as next
-use Rattle.scenarios.proofs.next.Symbol as next-def
-use Rattle.scenarios.proofs.next.Symbol.{name as #scenarios·next}
-use Rattle.scenarios.proofs.next.Met as next-thm
+use Rattle.meter_list.proofs.Reader as T
+use Rattle.meter_list.proofs.Reader.Laws as T′
+use Rattle.meter_list.proofs.Read as RD
+use Rattle.meter_list.proofs.Read.Laws as RD′
+use Rattle.meter_list.proofs.Step as S
+use Rattle.meter_list.proofs.Step.Laws as S′
+use Rattle.meter_list.proofs.new as new
+use Rattle.meter_list.proofs.new.Symbol as new-def
+use Rattle.meter_list.proofs.new.Symbol.{name as #meter-list·new}
+use Rattle.meter_list.proofs.new.Met as new-thm
+use Rattle.meter_list.proofs.next as next
+use Rattle.meter_list.proofs.next.Symbol as next-def
+use Rattle.meter_list.proofs.next.Symbol.{name as #meter-list·next}
+use Rattle.meter_list.proofs.next.Met as next-thm
 use Rattle.scenarios.proofs.opening.begin as begin
 use Rattle.scenarios.proofs.opening.begin.Symbol as begin-def
 use Rattle.scenarios.proofs.opening.begin.Symbol.{name as #scenarios·opening·begin}
@@ -83,7 +83,7 @@ use Rattle.scenarios.proofs.gather.Key.{name as #scenarios·gather}
 use Rattle.scenarios.proofs.gather as f
 use Rattle.scenarios.proofs.gather.Statement as stated
 use Rattle.scenarios.proofs.gather.Code as code
-use Rattle.scenarios.proofs.gather.Code.Mir.{turn-1, t-1, t-2, t-5}
+use Rattle.scenarios.proofs.gather.Code.Mir.{turn-1, t-1, t-5}
 
 abbrev after : Body → Body
 after skip = skip
@@ -277,7 +277,7 @@ module _ {M : Type 1} (𝓤 : URA M) (H : Heap 𝓤) (A : Atoms 𝓤) (W : Given
   Nearer-wf : WellFounded Nearer
   Nearer-wf = InvImage·wf (λ (i : Upto). 64 - i .0) (Nat·lt-wfRel .wf)
 
-  module _ (𝓣 : Tables 𝓤 H) (known-new : Triple 𝓤 (𝓣 .C #scenarios·new) (New 𝓤 H A mem run)) (known-next : Triple 𝓤 (𝓣 .C #scenarios·next) (Next 𝓤 H A mem run)) (known-begin : Triple 𝓤 (𝓣 .C #scenarios·opening·begin) (Begin 𝓤 H A mem run)) (known-admit : Triple 𝓤 (𝓣 .C #scenarios·opening·admit) (Admit 𝓤 H A mem run)) where
+  module _ (𝓣 : Tables 𝓤 H) (known-new : Triple 𝓤 (𝓣 .C #meter-list·new) (New 𝓤 H A mem run)) (known-next : Triple 𝓤 (𝓣 .C #meter-list·next) (Next 𝓤 H A mem run)) (known-begin : Triple 𝓤 (𝓣 .C #scenarios·opening·begin) (Begin 𝓤 H A mem run)) (known-admit : Triple 𝓤 (𝓣 .C #scenarios·opening·admit) (Admit 𝓤 H A mem run)) where
     abbrev fm : FmC 𝓤 H (W .laws) (𝓣 .C)
     fm = fmOf 𝓤 H (W .laws) 𝓣
 
@@ -390,7 +390,7 @@ module _ {M : Type 1} (𝓤 : URA M) (H : Heap 𝓤) (A : Atoms 𝓤) (W : Given
         began l₀ l₁ l₂ l₃ l₄ l₅ l₆ l₇ l₈ l₉ m₀)))))))))))
 
 module _ {M : Type 1} (𝓤 : URA M) (H : Heap 𝓤) (A : Atoms 𝓤) (W : Given 𝓤 H A) (mem : Memory → SProp 𝓤) (run : Routine → Fun 𝓤) (𝓣 : Tables 𝓤 H)
-    (known-new : Triple 𝓤 (𝓣 .C #scenarios·new) (New 𝓤 H A mem run)) (known-next : Triple 𝓤 (𝓣 .C #scenarios·next) (Next 𝓤 H A mem run)) (known-begin : Triple 𝓤 (𝓣 .C #scenarios·opening·begin) (Begin 𝓤 H A mem run)) (known-admit : Triple 𝓤 (𝓣 .C #scenarios·opening·admit) (Admit 𝓤 H A mem run)) where
+    (known-new : Triple 𝓤 (𝓣 .C #meter-list·new) (New 𝓤 H A mem run)) (known-next : Triple 𝓤 (𝓣 .C #meter-list·next) (Next 𝓤 H A mem run)) (known-begin : Triple 𝓤 (𝓣 .C #scenarios·opening·begin) (Begin 𝓤 H A mem run)) (known-admit : Triple 𝓤 (𝓣 .C #scenarios·opening·admit) (Admit 𝓤 H A mem run)) where
   gather-walks : Walks 𝓤 H A f.ended stayed (WpFn 𝓤 H (𝓣 .C) (𝓣 .Λ) code.function) (f.clauses 𝓤 H A mem run)
   gather-walks = walked 𝓤 H A f.ended stayed (f.clauses 𝓤 H A mem run) (WpFn 𝓤 H (𝓣 .C) (𝓣 .Λ) code.function) (λ κs. (slice-vals, (uint-vals w32, (bool-vals, tt)))) (λ κs. (shr-slice-tells (named 0) (κs .0) u8, (uint-tells w32, (bool-tells, tt))))
       (λ κs qs bounds a g are. via 𝓤 _ (fst∗ 𝓤 _ (emp 𝓤)) (walk 𝓤 H A W mem run (κs .0) (qs .0) (a .0) (are .0) (a .1 .0) (are .1 .0) (a .1 .1 .0) (are .1 .1 .0) 𝓣 known-new known-next known-begin known-admit))
@@ -404,7 +404,7 @@ gather-spec 𝓤 H 𝓜 𝓖 𝓡 =
     entered 𝓤 H (tripleOf 𝓤 H (𝓖 .A) f.signature (f.spec 𝓤 H (𝓖 .A) (𝓜 .mem) (𝓡 .run)))
     (tables 𝓤 H 𝓜 𝓡 code.env .C) (tables 𝓤 H 𝓜 𝓡 code.env .Λ) #scenarios·gather code.function (code.unfolded 𝓤 H 𝓜 𝓡)
     (gather-meets 𝓤 H (𝓖 .A) (givenOf 𝓤 H 𝓜 𝓖) (𝓜 .mem) (𝓡 .run) (tablesOf 𝓤 H 𝓜 (tables 𝓤 H 𝓜 𝓡 code.env))
-    (cited 𝓤 H (New 𝓤 H (𝓖 .A) (𝓜 .mem) (𝓡 .run)) 𝓜 𝓡 code.env #scenarios·new new-def.routine code.calls-scenarios·new (new-thm.met 𝓤 H 𝓜 𝓖 𝓡))
-    (cited 𝓤 H (Next 𝓤 H (𝓖 .A) (𝓜 .mem) (𝓡 .run)) 𝓜 𝓡 code.env #scenarios·next next-def.routine code.calls-scenarios·next (next-thm.met 𝓤 H 𝓜 𝓖 𝓡))
+    (cited 𝓤 H (New 𝓤 H (𝓖 .A) (𝓜 .mem) (𝓡 .run)) 𝓜 𝓡 code.env #meter-list·new new-def.routine code.calls-meter-list·new (new-thm.met 𝓤 H 𝓜 𝓖 𝓡))
+    (cited 𝓤 H (Next 𝓤 H (𝓖 .A) (𝓜 .mem) (𝓡 .run)) 𝓜 𝓡 code.env #meter-list·next next-def.routine code.calls-meter-list·next (next-thm.met 𝓤 H 𝓜 𝓖 𝓡))
     (cited 𝓤 H (Begin 𝓤 H (𝓖 .A) (𝓜 .mem) (𝓡 .run)) 𝓜 𝓡 code.env #scenarios·opening·begin begin-def.routine code.calls-scenarios·opening·begin (begin-thm.met 𝓤 H 𝓜 𝓖 𝓡))
     (cited 𝓤 H (Admit 𝓤 H (𝓖 .A) (𝓜 .mem) (𝓡 .run)) 𝓜 𝓡 code.env #scenarios·opening·admit admit-def.routine code.calls-scenarios·opening·admit (admit-thm.met 𝓤 H 𝓜 𝓖 𝓡)))

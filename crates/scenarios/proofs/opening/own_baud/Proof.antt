@@ -1,7 +1,7 @@
 -- `scenarios::opening::own_baud` meets its contract. Assumes nothing.
 use borrow.Author.Tests.{eq-eqb, ne-eqb}
 use Rattle.scenarios.specs.Opening.{ownBaud}
-use Rattle.scenarios.proofs.TextLaws.{and-false}
+use Rattle.rules.proofs.TextLaws.{and-false}
 use Rattle.scenarios.proofs.opening.own_baud.Statement.{statement}
 use Rattle.scenarios.proofs.opening.own_baud.Tie as tie
 

@@ -1,0 +1,4 @@
+pub mod CountLaws
+pub mod ReadLaws
+pub mod StepLaws
+pub mod Steps

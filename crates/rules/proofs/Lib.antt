@@ -1,0 +1,4 @@
+pub mod CheckLaws
+pub mod KeyLaws
+pub mod TextLaws
+pub mod VerdictLaws

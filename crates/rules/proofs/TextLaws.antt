@@ -1,0 +1,120 @@
+-- Texts compared byte by byte, and looked up among keys: the loops' invariants, their turns and their ends.
+use mathlib.Core.Path.{_≡_, refl, sym, ap, ap₂, _∙_}
+use mathlib.Core.Bool.{Bool, true, false, _&&_, _||_}
+use mathlib.Core.List.{List, [], _∷_}
+use Prim.Native.Nat.{ℕ, suc, _+_, _-_, _≤_, _<_, min}
+use native.Mathlib.Nat.{min-eq-left, min-eq-right}
+use native.Mathlib.Numerals.{add-one}
+use native.Mathlib.Omega.{arith}
+use lib.Dec.{eqb, leb}
+use lib.ListN.{length, take, drop, length-drop, drop-of-length-le}
+use lib.Seq.{drop-cons, take-nil}
+use borrow.Author.Tests.{leb-true, leb-false, eq-eqb, ne-eqb, le-leb, lt-leb}
+use Rattle.laws.specs.Words.{at}
+use Rattle.laws.proofs.Copy.{take-min}
+use Rattle.rules.specs.Tables.{sameText, isRate}
+use Rattle.rules.specs.Check.{within}
+
+-- ---- the bytes of a text
+
+pub text-is : (s : List ℕ) (start len x y : ℕ) → x ≡ min start (length s) → y ≡ min len (length s - x) → take (x + y - x) (drop x s) ≡ take len (drop start s)
+text-is s start len x y p q = go (leb start (length s)) refl
+  where
+    w : x + y - x ≡ y
+    w = omega arith
+
+    go : (b : Bool) → leb start (length s) ≡ b → take (x + y - x) (drop x s) ≡ take len (drop start s)
+    go true t =
+        let e : x ≡ start = p ∙ min-eq-left (leb-true start (length s) t) in
+        let f : y ≡ min len (length (drop start s)) = q ∙ ap (λ (k : ℕ). min len (length s - k)) e ∙ ap (min len) (sym (length-drop start s)) in
+        ap₂ (λ k m. take k (drop m s)) (w ∙ f) e ∙ take-min len (drop start s)
+    go false t =
+        let l : length s ≤ start = omega (arith, leb-false start (length s) t) in
+        let e : x ≡ length s = p ∙ min-eq-right l in
+        let m : length s ≤ x = omega arith in
+        ap (take (x + y - x)) (drop-of-length-le s m) ∙ take-nil (x + y - x) ∙ sym (ap (take len) (drop-of-length-le s l) ∙ take-nil len)
+
+-- ---- the same text
+
+pub and-false : (b : Bool) → b && false ≡ false
+and-false true = refl
+and-false false = refl
+
+pub differs : (a b : List ℕ) → (length b ≡ length a → ⊥) → false ≡ sameText a b
+differs [] [] h = absurd (h refl)
+differs [] (y ∷ ys) h = refl
+differs (x ∷ xs) [] h = refl
+differs (x ∷ xs) (y ∷ ys) h = rw (← differs xs ys (λ e. h (ap suc e))) (sym (and-false (eqb x y)))
+
+-- up to i the two are the same
+pub record SameTo (a b : List ℕ) (i : ℕ) : Type 0 where
+  pub length-is : length b ≡ length a
+  pub within : i ≤ length a
+  pub is : sameText a b ≡ sameText (drop i a) (drop i b)
+
+pub same-none : (a b : List ℕ) → length b ≡ length a → SameTo a b 0
+same-none a b h = record { length-is = h; within = omega arith; is = refl }
+
+module _ {a b : List ℕ} {i : ℕ} (s : SameTo a b i) where
+  first : i < length a → sameText a b ≡ eqb (at a i) (at b i) && sameText (drop (suc i) a) (drop (suc i) b)
+  first h =
+      let k : i < length b = omega (arith, s .length-is) in
+      s .is ∙ ap₂ sameText (drop-cons a i 0 h) (drop-cons b i 0 k)
+
+  pub same-not : i < length a → (at a i ≡ at b i → ⊥) → false ≡ sameText a b
+  same-not h q = sym (first h ∙ rw (ne-eqb (at a i) (at b i) q))
+
+  pub same-more : i < length a → at a i ≡ at b i → SameTo a b (i + 1)
+  same-more h q = record { length-is = s .length-is; within = omega arith; is = rw add-one (first h ∙ rw (eq-eqb (at a i) (at b i) q)) }
+
+  pub same-all : length a ≤ i → true ≡ sameText a b
+  same-all h =
+      let k : length b ≤ i = omega (arith, s .length-is) in
+      sym (s .is ∙ ap₂ sameText (drop-of-length-le a h) (drop-of-length-le b k))
+
+-- ---- every byte between two
+
+pub record WithinTo (lo hi : ℕ) (t : List ℕ) (i : ℕ) : Type 0 where
+  pub short : i ≤ length t
+  pub is : within lo hi t ≡ within lo hi (drop i t)
+
+pub within-none : (lo hi : ℕ) (t : List ℕ) → WithinTo lo hi t 0
+within-none lo hi t = record { short = omega arith; is = refl }
+
+module _ {lo hi : ℕ} {t : List ℕ} {i : ℕ} (s : WithinTo lo hi t i) where
+  first-byte : i < length t → within lo hi t ≡ leb lo (at t i) && leb (at t i) hi && within lo hi (drop (suc i) t)
+  first-byte h = s .is ∙ ap (within lo hi) (drop-cons t i 0 h)
+
+  pub within-low : i < length t → at t i < lo → false ≡ within lo hi t
+  within-low h q = sym (first-byte h ∙ rw (lt-leb lo (at t i) q))
+
+  pub within-high : i < length t → lo ≤ at t i → hi < at t i → false ≡ within lo hi t
+  within-high h p q = sym (first-byte h ∙ rw (le-leb lo (at t i) p, lt-leb (at t i) hi q))
+
+  pub within-more : i < length t → lo ≤ at t i → at t i ≤ hi → WithinTo lo hi t (i + 1)
+  within-more h p q = record { short = omega arith; is = rw add-one (first-byte h ∙ rw (le-leb lo (at t i) p, le-leb (at t i) hi q)) }
+
+  pub within-all : length t ≤ i → true ≡ within lo hi t
+  within-all h = sym (s .is ∙ ap (within lo hi) (drop-of-length-le t h))
+
+-- ---- one of the rates
+
+pub record RateTo (rs : List ℕ) (b k : ℕ) : Type 0 where
+  pub short : k ≤ length rs
+  pub is : isRate rs b ≡ isRate (drop k rs) b
+
+pub rate-none : (rs : List ℕ) (b : ℕ) → RateTo rs b 0
+rate-none rs b = record { short = omega arith; is = refl }
+
+module _ {rs : List ℕ} {b k : ℕ} (s : RateTo rs b k) where
+  first-rate : k < length rs → isRate rs b ≡ eqb (at rs k) b || isRate (drop (suc k) rs) b
+  first-rate h = s .is ∙ ap (λ (l : List ℕ). isRate l b) (drop-cons rs k 0 h)
+
+  pub rate-found : k < length rs → at rs k ≡ b → true ≡ isRate rs b
+  rate-found h q = sym (first-rate h ∙ rw (eq-eqb (at rs k) b q))
+
+  pub rate-more : k < length rs → (at rs k ≡ b → ⊥) → RateTo rs b (k + 1)
+  rate-more h q = record { short = omega arith; is = rw add-one (first-rate h ∙ rw (ne-eqb (at rs k) b q)) }
+
+  pub rate-all : length rs ≤ k → false ≡ isRate rs b
+  rate-all h = sym (s .is ∙ ap (λ (l : List ℕ). isRate l b) (drop-of-length-le rs h))

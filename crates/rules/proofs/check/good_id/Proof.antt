@@ -1,0 +1,17 @@
+-- `rules::check::good_id` meets its contract. Assumes nothing.
+use borrow.Author.Needs.{needs}
+use Rattle.rules.proofs.CheckLaws.{id-other, id-eight}
+use Rattle.rules.proofs.check.good_id.Statement.{statement}
+use Rattle.rules.proofs.check.good_id.Tie as tie
+
+returns : tie.Need-returns
+returns c = id-other (c .before .before .args .t .now) (search needs)
+
+all-within-requires : tie.Need-all-within-requires
+all-within-requires c κs = search needs
+
+returns-2 : tie.Need-returns-2
+returns-2 c = id-eight (c .before .before .before .args .t .now) (search needs) (c .all-within .ensures)
+
+pub good-id-spec : {M : Type 1} → statement M
+good-id-spec = tie.close (tie.spec returns all-within-requires returns-2)

@@ -1,0 +1,67 @@
+-- What the program's `check` gives: the values of a record that passes, or what it fails with.
+use mathlib.Core.Path.{_≡_}
+use mathlib.Core.List.{List}
+use Prim.Native.Nat.{ℕ, _+_, _*_}
+use lib.Dec.{eqb}
+use Rattle.laws.specs.Words.{if_then_else_}
+use Rattle.laws.specs.Sweep.{fold}
+use Rattle.values.specs.Values.{makerCode, decimal}
+use Rattle.rules.specs.Tables.{media, faults, mediumOf, faultOf}
+use Rattle.meter_list.specs.Layout.{Listed}
+use Rattle.rules.specs.Check.{textDigits, check}
+use Rattle.rules.specs.declared.Values.{Values}
+use Rattle.rules.specs.declared.Failing.{Failing}
+use Rattle.rules.specs.declared.Failing.the-variants.{BadPrimary, BadId, BadManufacturer, BadMedium, BadBaud, BadFault}
+use Rattle.rules.specs.declared.Checked.{Checked}
+use Rattle.rules.specs.declared.Checked.the-variants.{Passes, Fails}
+
+-- digits as a number in a base, most significant first
+unfoldable pub inBase : ℕ → List ℕ → ℕ
+inBase b ds = fold (λ (n : ℕ) (d : ℕ). n * b + d) 0 ds
+
+-- the values that a record's texts stand for; the id once as BCD nibbles, once as a decimal number
+unfoldable pub valuesOf : Listed → Values
+valuesOf r =
+    record {
+      primary = r .primary;
+      version = r .version;
+      baud = r .baud;
+      id = inBase 16 (textDigits (r .id));
+      number = decimal (textDigits (r .id));
+      manufacturer = makerCode (r .manufacturer);
+      medium = mediumOf media (r .medium) .code;
+      model = mediumOf media (r .medium) .model;
+      fault = faultOf faults (r .fault);
+    }
+
+-- 4: primary over 250; 5: id; 6: manufacturer; 7: medium; 8: own baud; 9: fault
+abbrev pub failNumber : Failing → ℕ
+failNumber BadPrimary = 4
+failNumber BadId = 5
+failNumber BadManufacturer = 6
+failNumber BadMedium = 7
+failNumber BadBaud = 8
+failNumber BadFault = 9
+
+-- 0: the record passes
+abbrev pub checkNumber : Checked → ℕ
+checkNumber (Passes v) = 0
+checkNumber (Fails f) = failNumber f
+
+-- what has a number of 4 to 9
+abbrev pub failingOf : ℕ → Failing
+failingOf n =
+    if eqb n 4 then BadPrimary else
+    if eqb n 5 then BadId else
+    if eqb n 6 then BadManufacturer else
+    if eqb n 7 then BadMedium else
+    if eqb n 8 then BadBaud else
+    BadFault
+
+unfoldable pub checkedOf : Listed → Checked
+checkedOf r = if eqb (check r) 0 then Passes (valuesOf r) else Fails (failingOf (check r))
+
+-- the answer has the number of 01, and if that is 0 the record's values
+pub record CheckGives (r : Listed) (a : Checked) : Type 0 where
+  pub number : checkNumber a ≡ check r
+  pub is : a ≡ checkedOf r

@@ -1,0 +1,63 @@
+// Texts as slices of the list, compared and read.
+ghost use mathlib.Core.Path.{_≡_};
+ghost use Prim.Native.Nat.{min};
+ghost use Rattle.rules.specs.Tables.{sameText};
+ghost use Rattle.rules.specs.Check.{within};
+ghost use Rattle.meter_list.specs.Reading.{textOf};
+use meter_list::Text;
+
+fn least(a: usize, b: usize) -> usize
+    ensures { λ r. ⌜ r ≡ min a b ⌝ }
+{
+    if a < b {
+        return a;
+    }
+    b
+}
+
+// The bytes of a text. Of one that lies past the list's end, those that the list has.
+pub fn text<'a>(list: &'a [u8], t: Text) -> &'a [u8]
+    ensures { λ r. ⌜ now r ≡ textOf (now (list .entry)) t ⌝ }
+{
+    let n = list.len();
+    let start = least(t.start, n);
+    let len = least(t.len, n - start);
+    let end = start + len;
+    &list[start..end]
+}
+
+// The same bytes.
+pub fn same_text(a: &[u8], b: &[u8]) -> bool
+    ensures { λ r. ⌜ r ≡ sameText (now (a .entry)) (now (b .entry)) ⌝ }
+{
+    let n = a.len();
+    if b.len() != n {
+        return false;
+    }
+    let mut i: usize = 0;
+    while i < n {
+        if a[i] != b[i] {
+            return false;
+        }
+        i += 1;
+    }
+    true
+}
+
+// Every byte lies between two.
+pub fn all_within(lo: u8, hi: u8, t: &[u8]) -> bool
+    ensures { λ r. ⌜ r ≡ within lo hi (now (t .entry)) ⌝ }
+{
+    let n = t.len();
+    let mut i: usize = 0;
+    while i < n {
+        if t[i] < lo {
+            return false;
+        }
+        if hi < t[i] {
+            return false;
+        }
+        i += 1;
+    }
+    true
+}

@@ -1,0 +1,111 @@
+//! The static library's side: each call through its entry point, and the segment that an image means.
+use crate::calls::{lend, origin_bits, Answer, Call, Side, State, FILL, GUARD};
+use std::ptr;
+
+pub const IMAGE: usize = 5974;
+const INPUT: usize = 18;
+const QUEUE: usize = 278;
+const METERS: usize = 4374;
+const METER: usize = 25;
+
+extern "C" {
+    fn segment_image_len() -> usize;
+    fn segment_new(image: *mut u8);
+    fn segment_open(image: *mut u8, list: *const u8, len: usize, baud: u32, practice: bool, origin: f64) -> u32;
+    fn segment_send(image: *mut u8, piece: *const u8, len: usize, secs: f64, year: u32, month: u32, day: u32, hour: u32, minute: u32) -> u32;
+    fn segment_receive(image: *mut u8, lent: *mut u8, len: usize) -> usize;
+    fn segment_clear(image: *mut u8);
+    fn segment_set_baud(image: *mut u8, baud: u32) -> u32;
+    fn segment_search(
+        image: *mut u8, secs: f64, year: u32, month: u32, day: u32, hour: u32, minute: u32, allowance: u32, entries: *mut u8, len: usize,
+        summary: *mut u8,
+    ) -> u32;
+    fn frame_parse(bytes: *const u8, len: usize, out: *mut u8) -> u32;
+    fn frame_encode(kind: u8, control: u8, address: u8, ci: u8, data: *const u8, data_len: usize, lent: *mut u8, lent_len: usize) -> u32;
+}
+
+pub fn image_len() -> usize {
+    unsafe { segment_image_len() }
+}
+
+/// An empty slice may have any pointer: null.
+fn start(bytes: &[u8]) -> *const u8 {
+    if bytes.is_empty() { ptr::null() } else { bytes.as_ptr() }
+}
+
+pub struct Library {
+    /// The image between two guards.
+    pub memory: [u8; GUARD + IMAGE + GUARD],
+}
+
+impl Library {
+    /// A new segment over an image that held something else.
+    pub fn new() -> Self {
+        let mut library = Library { memory: [FILL; GUARD + IMAGE + GUARD] };
+        unsafe { segment_new(library.image()) };
+        library
+    }
+
+    fn image(&mut self) -> *mut u8 {
+        self.memory[GUARD..].as_mut_ptr()
+    }
+
+    pub fn guarded(&self) -> bool {
+        self.memory[..GUARD].iter().chain(&self.memory[GUARD + IMAGE..]).all(|b| *b == FILL)
+    }
+}
+
+impl Side for Library {
+    fn answer(&mut self, call: &Call) -> Answer {
+        let image = self.image();
+        let mut lent_out = Vec::new();
+        // Lends memory of some length.
+        let mut out = |n: usize| {
+            lent_out.push(lend(n));
+            lent_out.last_mut().unwrap().as_mut_ptr()
+        };
+        let returned = match call {
+            Call::Open { list, baud, practice, origin } => unsafe { segment_open(image, start(list), list.len(), *baud, *practice, *origin) as u64 },
+            Call::Send { piece, clock: c } => unsafe {
+                segment_send(image, start(piece), piece.len(), c.now, c.year, c.month, c.day, c.hour, c.minute) as u64
+            },
+            Call::Receive { lent } => unsafe { segment_receive(image, out(*lent), *lent) as u64 },
+            Call::Clear => {
+                unsafe { segment_clear(image) };
+                0
+            }
+            Call::SetBaud { baud } => unsafe { segment_set_baud(image, *baud) as u64 },
+            Call::Search { clock: c, allowance, lent } => unsafe {
+                let (entries, summary) = (out(*lent), out(12));
+                segment_search(image, c.now, c.year, c.month, c.day, c.hour, c.minute, *allowance, entries, *lent, summary) as u64
+            },
+            Call::Parse { bytes } => unsafe { frame_parse(start(bytes), bytes.len(), out(16)) as u64 },
+            Call::Encode { kind, control, address, ci, data, lent } => unsafe {
+                frame_encode(*kind, *control, *address, *ci, start(data), data.len(), out(*lent), *lent) as u64
+            },
+        };
+        Answer { returned, lent: lent_out }
+    }
+
+    fn state(&self) -> State {
+        let image = &self.memory[GUARD..GUARD + IMAGE];
+        let num = |at: usize, n: usize| (0..n).rev().fold(0u64, |v, k| v * 256 + image[at + k] as u64);
+        let (count, waiting, queued) = (num(12, 2) as usize, num(14, 2) as usize, num(16, 2) as usize);
+        let meter = |k: usize| {
+            // Where each number begins, in the order of the state's numbers; the next one ends it.
+            const AT: [usize; 16] = [0, 1, 5, 7, 8, 9, 10, 11, 12, 16, 17, 18, 19, 20, 24, METER];
+            let mut parts = [0; 15];
+            for (i, part) in parts.iter_mut().enumerate() {
+                *part = num(METERS + METER * k + AT[i], AT[i + 1] - AT[i]) as u32;
+            }
+            parts
+        };
+        State {
+            baud: num(0, 4) as u32,
+            origin: origin_bits(f64::from_bits(num(4, 8))),
+            input: image[INPUT..INPUT + waiting].to_vec(),
+            queue: image[QUEUE..QUEUE + queued].to_vec(),
+            meters: (0..count).map(meter).collect(),
+        }
+    }
+}
