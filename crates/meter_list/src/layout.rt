@@ -96,7 +96,7 @@ fn record_to(list: &[u8], at: usize, end: usize) -> Step
 }
 
 // One record: one byte, the length of its rest; primary; version; own baud; four texts.
-pub fn record_at(list: &[u8], at: usize) -> Step
+pub(crate) fn record_at(list: &[u8], at: usize) -> Step
     ensures { λ r. ⌜ r ≡ stepAt (now (list .entry)) at ⌝ }
 {
     let n = list.len();

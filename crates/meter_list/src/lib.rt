@@ -49,7 +49,7 @@ pub struct Read<'a> {
 }
 
 // Where a reader at `at` stands after a step.
-pub fn at_of(at: usize, step: Step) -> usize
+fn at_of(at: usize, step: Step) -> usize
     ensures { λ r. ⌜ r ≡ atOf at step ⌝ }
 {
     match step {

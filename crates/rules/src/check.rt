@@ -24,7 +24,7 @@ use meter_list::Listed;
 use values::manufacturer_code;
 
 // Eight digits.
-pub fn good_id(t: &[u8]) -> bool
+fn good_id(t: &[u8]) -> bool
     ensures { λ r. ⌜ r ≡ goodId (now (t .entry)) ⌝ }
 {
     if t.len() != 8 {
@@ -34,7 +34,7 @@ pub fn good_id(t: &[u8]) -> bool
 }
 
 // Three capital letters. An empty one passes only for heat_old.
-pub fn good_manufacturer(t: &[u8], medium: &[u8]) -> bool
+fn good_manufacturer(t: &[u8], medium: &[u8]) -> bool
     ensures { λ r. ⌜ r ≡ goodMaker (now (t .entry)) (now (medium .entry)) ⌝ }
 {
     if t.len() == 0 {
@@ -47,7 +47,7 @@ pub fn good_manufacturer(t: &[u8], medium: &[u8]) -> bool
 }
 
 // 0 is the bus's at opening; else one of the rates.
-pub fn good_baud(baud: u32) -> bool
+fn good_baud(baud: u32) -> bool
     ensures { λ r. ⌜ r ≡ (eqb baud 0 || isRate rates baud) ⌝ }
 {
     if baud == 0 {

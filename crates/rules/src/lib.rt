@@ -1,7 +1,7 @@
 // The rules of a record of the meter list, with the texts and tables that they need.
 pub mod check; // check.rt: a record against the rules
 pub mod tables; // tables.rt: keys and codes of media and faults, and the rates
-pub mod texts; // texts.rt: texts as parts of the list
+mod texts; // texts.rt: texts as parts of the list
 
 use meter::Fault;
 use meter::Model;

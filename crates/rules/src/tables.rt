@@ -77,21 +77,21 @@ fn find_key(keys: &[u8], count: usize, t: &[u8]) -> usize
 }
 
 // The place of a medium's key in MEDIA, 8 for none.
-pub fn find_medium(t: &[u8]) -> usize
+pub(crate) fn find_medium(t: &[u8]) -> usize
     ensures { λ r. ⌜ r ≡ place mediaKeys (now (t .entry)) ⌝ }
 {
     find_key(&MEDIA, 8, t)
 }
 
 // The place of a fault's key in FAULTS, 7 for none.
-pub fn find_fault(t: &[u8]) -> usize
+pub(crate) fn find_fault(t: &[u8]) -> usize
     ensures { λ r. ⌜ r ≡ place faultKeys (now (t .entry)) ⌝ }
 {
     find_key(&FAULTS, 7, t)
 }
 
 // For a place that is none, the code of water.
-pub fn medium_code(k: usize) -> u8
+pub(crate) fn medium_code(k: usize) -> u8
     ensures { λ r. ⌜ r ≡ getD media k medium-water .code ⌝ }
 {
     if k < 8 {
@@ -101,7 +101,7 @@ pub fn medium_code(k: usize) -> u8
 }
 
 // For a place that is none, as water replies.
-pub fn medium_model(k: usize) -> Model
+pub(crate) fn medium_model(k: usize) -> Model
     ensures { λ r. ⌜ r ≡ getD media k medium-water .model ⌝ }
 {
     if k < 8 {
@@ -111,7 +111,7 @@ pub fn medium_model(k: usize) -> Model
 }
 
 // For a place that is none, no fault.
-pub fn fault_kind(k: usize) -> Fault
+pub(crate) fn fault_kind(k: usize) -> Fault
     ensures { λ r. ⌜ r ≡ getD faults k fault-none .fault ⌝ }
 {
     if k < 7 {

@@ -16,7 +16,7 @@ fn least(a: usize, b: usize) -> usize
 }
 
 // The bytes of a text. Of one that lies past the list's end, those that the list has.
-pub fn text<'a>(list: &'a [u8], t: Text) -> &'a [u8]
+pub(crate) fn text<'a>(list: &'a [u8], t: Text) -> &'a [u8]
     ensures { λ r. ⌜ now r ≡ textOf (now (list .entry)) t ⌝ }
 {
     let n = list.len();
@@ -27,7 +27,7 @@ pub fn text<'a>(list: &'a [u8], t: Text) -> &'a [u8]
 }
 
 // The same bytes.
-pub fn same_text(a: &[u8], b: &[u8]) -> bool
+pub(crate) fn same_text(a: &[u8], b: &[u8]) -> bool
     ensures { λ r. ⌜ r ≡ sameText (now (a .entry)) (now (b .entry)) ⌝ }
 {
     let n = a.len();
@@ -45,7 +45,7 @@ pub fn same_text(a: &[u8], b: &[u8]) -> bool
 }
 
 // Every byte lies between two.
-pub fn all_within(lo: u8, hi: u8, t: &[u8]) -> bool
+pub(crate) fn all_within(lo: u8, hi: u8, t: &[u8]) -> bool
     ensures { λ r. ⌜ r ≡ within lo hi (now (t .entry)) ⌝ }
 {
     let n = t.len();

@@ -19,7 +19,7 @@ use rules::Values;
 use rules::check::check;
 
 // 0 is the bus's. With the practice flag one equal to the bus baud becomes 2400.
-pub fn own_baud(own: u32, bus: u32, practice: bool) -> u32
+fn own_baud(own: u32, bus: u32, practice: bool) -> u32
     ensures { λ r. ⌜ r ≡ ownBaud bus practice own ⌝ }
 {
     if own == 0 {
@@ -35,7 +35,7 @@ pub fn own_baud(own: u32, bus: u32, practice: bool) -> u32
 }
 
 // Readings differ from meter to meter, and are always the same for one id; with the practice flag all begin alike.
-pub fn seed_of(number: u32, practice: bool) -> u32
+fn seed_of(number: u32, practice: bool) -> u32
     ensures { λ r. ⌜ r ≡ seedFrom practice number ⌝ }
 {
     if practice {
@@ -45,7 +45,7 @@ pub fn seed_of(number: u32, practice: bool) -> u32
 }
 
 // A fresh meter. A flaky one misses its first telegram.
-pub fn fresh(v: Values, bus: u32, practice: bool) -> Meter
+fn fresh(v: Values, bus: u32, practice: bool) -> Meter
     ensures { λ r. ⌜ r ≡ freshOf bus practice v ⌝ }
 {
     let model = v.model;
@@ -93,7 +93,7 @@ fn spare_meter() -> Meter
 }
 
 // No meters, and why.
-pub fn no_meters(refusal: Refusal) -> Meters
+pub(crate) fn no_meters(refusal: Refusal) -> Meters
     ensures { λ r. ⌜ r ≡ noMeters refusal ⌝ }
 {
     let m = spare_meter();
@@ -127,7 +127,7 @@ pub fn is_accepted(r: Refusal) -> bool
 }
 
 // Its number in the table of refusals, 4 to 9.
-pub fn fail_number(f: Failing) -> u8
+fn fail_number(f: Failing) -> u8
     ensures { λ n. ⌜ n ≡ failNumber f ⌝ }
 {
     match f {
@@ -169,7 +169,7 @@ pub fn refusal_index(r: Refusal) -> usize
 }
 
 // One step of the reader more. The first record that fails refuses the opening.
-pub fn admit(list: &[u8], bus: u32, practice: bool, acc: Meters, step: Step) -> Meters
+pub(crate) fn admit(list: &[u8], bus: u32, practice: bool, acc: Meters, step: Step) -> Meters
     ensures { λ r. ⌜ r ≡ admitted (now (list .entry)) bus practice acc step ⌝ }
 {
     let mut a = acc;
