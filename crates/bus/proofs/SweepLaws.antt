@@ -23,7 +23,7 @@ use Rattle.bus.specs.Plain.{Plain}
 use Rattle.bus.specs.Steps.{withReply, replies}
 use Rattle.bus.specs.View.{plainOf}
 use Rattle.bus.specs.Joining.{replyMost, Joins}
-use Rattle.bus.specs.Step.{Steps}
+use Rattle.bus.specs.OneMeter.{TakesPart}
 use Rattle.bus.proofs.JoiningLaws.{joins-none}
 
 -- ---- lists
@@ -134,7 +134,7 @@ module _ {f : PlainMeter → hearing.Heard} {t₀ : Segment} where
     same-way p = ap (λ x. x p) u ∙ ap (λ x. g (x .baud) p) (sym (s .same))
 
     -- the meter at i takes its step
-    pub sweeping-more : {kept′ : Joining} {bytes′ : List ℕ} {r : Stepped} → Steps (g (t .baud) (plainMeter (getD (t .meters) i d))) kept bytes r bytes′ → r .kept ≡ kept′
+    pub sweeping-more : {kept′ : Joining} {bytes′ : List ℕ} {r : Stepped} → TakesPart (g (t .baud) (plainMeter (getD (t .meters) i d))) kept bytes r bytes′ → r .kept ≡ kept′
         → Sweeping f t₀ (i + 1) (keeping (set (t .meters) i (r .meter)) t) kept′ bytes′
     sweeping-more {kept′} {bytes′} {r} st w =
         let p = plainMeter (getD (t .meters) i d) in

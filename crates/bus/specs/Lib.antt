@@ -1,5 +1,5 @@
 pub mod Calls
-pub mod Step
+pub mod OneMeter
 pub mod Joining
 pub mod Plain
 pub mod Steps

@@ -10,7 +10,7 @@ ghost use Rattle.meter.specs.View.{plainMeter};
 ghost use Rattle.hear.specs.Hear.{hear};
 ghost use Rattle.bus.specs.Calls.{fitsQueue};
 ghost use Rattle.bus.specs.Joining.{replyMost};
-ghost use Rattle.bus.specs.Step.{Steps};
+ghost use Rattle.bus.specs.OneMeter.{TakesPart};
 ghost use Rattle.bus.specs.View.{plainOf, sentOf};
 use crate::METERS;
 use crate::Segment;
@@ -69,7 +69,7 @@ fn step(
     clock: Clock,
 ) -> Stepped
     requires { ⌜ (kept .count < 4096) × (length (now joined) ≡ replyMost) ⌝ }
-    ensures { λ r. ⌜ Steps (hear bus (telegramOf frame (now («data» .entry))) elapsed clock (plainMeter m)) kept (now (joined .entry)) r (now (joined .exit)) ⌝ }
+    ensures { λ r. ⌜ TakesPart (hear bus (telegramOf frame (now («data» .entry))) elapsed clock (plainMeter m)) kept (now (joined .entry)) r (now (joined .exit)) ⌝ }
 {
     let h = hear::hear(m, bus, frame, data);
     let n = h.meter;

@@ -13,7 +13,7 @@ use Rattle.frame.specs.Frame.{Telegram, ack, short, long, Parsed, comple
 use Rattle.frame.specs.Theorems.{WrittenBack, WrittenBackByWriter, ParsedToItself, ParsedFromWriter, Complete, Incomplete, Invalid, OneOfThree, NoTwo, KeepsComplete, KeepsInvalid}
 use Rattle.frame.proofs.RoundTrip.{parse-encode, parse-back}
 use Rattle.frame.proofs.Waiting.{Bytes, never, never′}
-use Rattle.frame.proofs.Writing.{write-fits}
+use Rattle.frame.proofs.WritingLaws.{write-fits}
 use Rattle.frame.proofs.More.{parse-more}
 
 pub written-back : WrittenBack

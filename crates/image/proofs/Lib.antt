@@ -1,5 +1,5 @@
 pub mod Blocks
-pub mod Meters
-pub mod Numbers
+pub mod MeterLaws
+pub mod NumberLaws
 pub mod Whole
 pub mod Worked

@@ -12,9 +12,9 @@ use Rattle.scenarios.specs.Opening.{capacity}
 use Rattle.bus.specs.View.{plainOf}
 use Rattle.bus.specs.declared.Segment.{Segment}
 use Rattle.image.specs.Image.{block, number, meters, imaged, Head}
-use Rattle.image.proofs.Numbers.{number-take}
+use Rattle.image.proofs.NumberLaws.{number-take}
 use Rattle.image.proofs.Blocks.{paste-before, paste-at, block-same}
-use Rattle.image.proofs.Meters.{meters-front}
+use Rattle.image.proofs.MeterLaws.{meters-front}
 
 -- an image of a segment, if each part is
 pub image-is : (s : Segment) (l : List ℕ) → number 4 0 l ≡ s .baud → ofBits binary64 (number 8 4 l) ≡ s .origin

@@ -1,12 +1,7 @@
 // The entry points of the static library. The segment is an image that the caller keeps between the calls.
 ghost use mathlib.Core.Path.{_≡_};
-ghost use mathlib.Core.List.{List, [], _∷_, _++_};
-ghost use Prim.Native.Nat.{ℕ, _+_, _*_, _<_, _≤_};
-ghost use lib.ListN.{length, take, drop};
-ghost use lib.Seq.{paste};
-ghost use Rattle.values.specs.Values.{little};
-ghost use Rattle.frame.specs.Frame.{dataOf, write};
-ghost use Rattle.frame.specs.View.{telegramOf, whyOf, numberOf, countOf};
+ghost use Prim.Native.Nat.{_+_, _*_, _<_};
+ghost use Rattle.frame.specs.Frame.{write};
 ghost use Rattle.scenarios.specs.Given.{refusalNumber, refusalIndex};
 ghost use Rattle.bus.specs.Plain.{blank};
 ghost use Rattle.bus.specs.Calls;
@@ -14,21 +9,18 @@ ghost use Rattle.bus.specs.View.{sendingNumber, changingNumber};
 ghost use Rattle.search.specs.View;
 ghost use Rattle.image.specs.Image.{imaged, imageLen};
 ghost use Rattle.jezynar.specs.Answers.{Answers, Opens, receivedBy};
-ghost use Rattle.jezynar.specs.Searches.{kindByte, entryBytes, rows, flagNumber, summaryOf, searchBy, Searches};
-ghost use Rattle.jezynar.specs.Telegrams.{whyNumber, headOf, Parses, telegramBy, Writes};
+ghost use Rattle.jezynar.specs.Searches.{searchBy, Searches};
+ghost use Rattle.jezynar.specs.Telegrams.{Parses, telegramBy, Writes};
 use bus::Changing;
-use bus::METERS;
 use bus::Segment;
 use bus::Sending;
 use clock::Clock;
-use frame::Frame;
 use frame::Outcome;
-use frame::Why;
-use frame::Written;
 use image::IMAGE;
 use scenarios::Refusal;
-use search::EntryRecord;
-use search::Kind;
+
+mod entries; // entries.rt: the entries of a search and its summary, as bytes
+mod telegrams; // telegrams.rt: telegrams as numbers and bytes
 
 const LEN: usize = IMAGE;
 
@@ -177,97 +169,6 @@ pub extern "C" fn segment_receive(image: &mut [u8; IMAGE], lent: &mut [u8]) -> u
 
 // ---- the search
 
-fn kind_byte(kind: Kind) -> u8
-    ensures { λ r. ⌜ r ≡ kindByte kind ⌝ }
-{
-    match kind {
-        Kind::One => 1,
-        Kind::Mute => 2,
-        Kind::Many => 3,
-    }
-}
-
-// Kind, eight digits, count, three bytes 0.
-fn entry_bytes(e: EntryRecord) -> [u8; 16]
-    ensures { λ r. ⌜ r ≡ entryBytes e ⌝ }
-{
-    let kind = e.kind;
-    let d = e.digits;
-    let n = values::le4(e.count as u64);
-    [
-        kind_byte(kind),
-        d[0],
-        d[1],
-        d[2],
-        d[3],
-        d[4],
-        d[5],
-        d[6],
-        d[7],
-        n[0],
-        n[1],
-        n[2],
-        n[3],
-        0,
-        0,
-        0,
-    ]
-}
-
-// The first n bytes of `from` go into `to` from `p` on.
-fn copy(from: &[u8], n: usize, to: &mut [u8], p: usize)
-    requires { ⌜ (n ≤ length (now from)) × (p + n ≤ length (now to)) ⌝ }
-    ensures { λ _. ⌜ now (to .exit) ≡ paste (now (to .entry)) p (now (from .entry)) n ⌝ }
-{
-    let mut j: usize = 0;
-    while j < n {
-        to[p + j] = from[j];
-        j += 1;
-    }
-}
-
-// The first count entries, 16 bytes each; the bytes past them stay.
-fn put_entries(found: [EntryRecord; METERS], count: usize, lent: &mut [u8])
-    requires { ⌜ (count ≤ 64) × (16 * count ≤ length (now lent)) ⌝ }
-    ensures { λ _. ⌜ now (lent .exit) ≡ rows (take count found) ++ drop (16 * count) (now (lent .entry)) ⌝ }
-{
-    let mut i: usize = 0;
-    while i < count {
-        let e = found[i];
-        let b = entry_bytes(e);
-        copy(&b, 16, lent, 16 * i);
-        i += 1;
-    }
-}
-
-fn flag_number(b: bool) -> u64
-    ensures { λ r. ⌜ r ≡ flagNumber b ⌝ }
-{
-    if b { 1 } else { 0 }
-}
-
-fn summary_of(count: usize, probes: u32, spent: bool) -> [u8; 12]
-    ensures { λ r. ⌜ r ≡ summaryOf count probes spent ⌝ }
-{
-    let c = values::le4(count as u64);
-    let p = values::le4(probes as u64);
-    let s = values::le4(flag_number(spent));
-    [
-        c[0],
-        c[1],
-        c[2],
-        c[3],
-        p[0],
-        p[1],
-        p[2],
-        p[3],
-        s[0],
-        s[1],
-        s[2],
-        s[3],
-    ]
-}
-
 fn outcome_number(outcome: search::Outcome) -> u32
     ensures { λ r. ⌜ r ≡ View.numberOf outcome ⌝ }
 {
@@ -314,83 +215,14 @@ pub extern "C" fn segment_search(
     }
     let found = core.entries;
     let count = core.count;
-    put_entries(found, count, entries);
-    *summary = summary_of(count, core.probes, core.spent);
+    entries::put_entries(found, count, entries);
+    *summary = entries::summary_of(count, core.probes, core.spent);
     let t = core.segment;
     image::write_image(t, image);
     0
 }
 
 // ---- telegrams
-
-fn why_number(why: Why) -> u32
-    ensures { λ r. ⌜ r ≡ whyNumber (whyOf why) ⌝ }
-{
-    match why {
-        Why::Checksum => 2,
-        Why::Stop => 3,
-        Why::Header => 4,
-        Why::Length => 5,
-        Why::Start => 6,
-    }
-}
-
-fn head_of(frame: Frame) -> [u8; 4]
-    ensures { λ r. ⌜ ((d : List ℕ) → r ≡ headOf (telegramOf frame d)) ⌝ }
-{
-    match frame {
-        Frame::Ack => [0, 0, 0, 0],
-        Frame::Short { control, address } => [1, control, address, 0],
-        Frame::Long {
-            control,
-            address,
-            ci,
-        } => [2, control, address, ci],
-    }
-}
-
-// ACK and short have no data.
-fn data_count(frame: Frame, data: &[u8]) -> usize
-    ensures { λ r. ⌜ r ≡ length (dataOf (telegramOf frame (now («data» .entry)))) ⌝ }
-{
-    match frame {
-        Frame::Ack => 0,
-        Frame::Short {
-            control: _,
-            address: _,
-        } => 0,
-        Frame::Long {
-            control: _,
-            address: _,
-            ci: _,
-        } => data.len(),
-    }
-}
-
-fn description(head: [u8; 4], count: usize, used: usize) -> [u8; 16]
-    ensures { λ r. ⌜ r ≡ head ++ little 4 count ++ little 4 used ++ 0 ∷ 0 ∷ 0 ∷ 0 ∷ [] ⌝ }
-{
-    let n = values::le4(count as u64);
-    let u = values::le4(used as u64);
-    [
-        head[0],
-        head[1],
-        head[2],
-        head[3],
-        n[0],
-        n[1],
-        n[2],
-        n[3],
-        u[0],
-        u[1],
-        u[2],
-        u[3],
-        0,
-        0,
-        0,
-        0,
-    ]
-}
 
 // The telegram in front of some bytes: 0 complete, 1 incomplete, 2 to 6 invalid (checksum, stop, header, length, start).
 #[no_mangle]
@@ -399,44 +231,12 @@ pub extern "C" fn frame_parse(bytes: &[u8], out: &mut [u8; 16]) -> u32
 {
     match frame::parse(bytes) {
         Outcome::Complete { frame, len, used } => {
-            let count = data_count(frame, frame::data_of(bytes, len));
-            *out = description(head_of(frame), count, used);
+            let count = telegrams::data_count(frame, frame::data_of(bytes, len));
+            *out = telegrams::description(telegrams::head_of(frame), count, used);
             0
         }
         Outcome::Incomplete => 1,
-        Outcome::Invalid(why) => why_number(why),
-    }
-}
-
-// Its data stand beside it.
-fn frame_by(kind: u8, control: u8, address: u8, ci: u8) -> Frame
-    ensures { λ r. ⌜ ((d : List ℕ) → telegramOf r d ≡ telegramBy kind control address ci d) ⌝ }
-{
-    if kind == 0 {
-        return Frame::Ack;
-    }
-    if kind == 1 {
-        return Frame::Short {
-            control: control,
-            address: address,
-        };
-    }
-    Frame::Long {
-        control: control,
-        address: address,
-        ci: ci,
-    }
-}
-
-// number * 65536 + bytes written
-fn packed_written(w: Written) -> u32
-    requires { ⌜ countOf w < 65536 ⌝ }
-    ensures { λ r. ⌜ r ≡ numberOf w * 65536 + countOf w ⌝ }
-{
-    match w {
-        Written::Bytes(n) => n as u32,
-        Written::DataTooLong => 11 * 65536,
-        Written::NoRoom => 12 * 65536,
+        Outcome::Invalid(why) => telegrams::why_number(why),
     }
 }
 
@@ -452,6 +252,6 @@ pub extern "C" fn frame_encode(
 ) -> u32
     ensures { λ r. ⌜ Writes (write (telegramBy kind control address ci (now («data» .entry))) (now (lent .entry))) r (now (lent .exit)) ⌝ }
 {
-    let f = frame_by(kind, control, address, ci);
-    packed_written(frame::encode(f, data, lent))
+    let f = telegrams::frame_by(kind, control, address, ci);
+    telegrams::packed_written(frame::encode(f, data, lent))
 }

@@ -1,5 +1,5 @@
 use borrow.Author.Needs.{needs}
-use Rattle.frame.proofs.Writing.{of-frame}
+use Rattle.frame.proofs.WritingLaws.{of-frame}
 use Rattle.frame.proofs.encode.Statement.{statement}
 use Rattle.frame.proofs.encode.Tie as tie
 

@@ -6,7 +6,7 @@ use lib.ListN.{length, take, drop, length-take, length-drop, length-set}
 use borrow.Author.Needs.{needs}
 use Rattle.scenarios.specs.Opening.{capacity}
 use Rattle.image.specs.Image.{metered}
-use Rattle.image.proofs.Meters.{Got, got-none, got-more, got-all}
+use Rattle.image.proofs.MeterLaws.{Got, got-none, got-more, got-all}
 use Rattle.image.proofs.read_meters.Statement.{statement}
 use Rattle.image.proofs.read_meters.Tie as tie
 

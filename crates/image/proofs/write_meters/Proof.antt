@@ -6,7 +6,7 @@ use lib.ListN.{length}
 use lib.Seq.{length-paste}
 use borrow.Author.Needs.{needs}
 use Rattle.scenarios.specs.Opening.{capacity}
-use Rattle.image.proofs.Meters.{Put, put-none, put-more, put-all}
+use Rattle.image.proofs.MeterLaws.{Put, put-none, put-more, put-all}
 use Rattle.image.proofs.write_meters.Statement.{statement}
 use Rattle.image.proofs.write_meters.Tie as tie
 
