@@ -1,14 +1,3 @@
 pub mod BaudLaws
-pub mod BoundLaws
-pub mod HandleLaws
-pub mod JoinLaws
-pub mod JoiningLaws
 pub mod OpenLaws
-pub mod OverlayLaws
 pub mod ReceiveLaws
-pub mod SendLaws
-pub mod SentLaws
-pub mod SettleLaws
-pub mod Slips
-pub mod StayLaws
-pub mod SweepLaws

@@ -15,11 +15,11 @@ use Rattle.rules.specs.Tables.{isRate}
 use Rattle.meter_list.specs.Layout.{Layout, fits, noFit, readRecords}
 use Rattle.rules.specs.Check.{allPass}
 use Rattle.rules.specs.Checked.{failNumber}
-use Rattle.scenarios.specs.Gather.{isAccepted}
+use Rattle.refusals.specs.Refusals.{isAccepted}
 use Rattle.scenarios.specs.Opening.{capacity, Opened, opens, refuses, refusesRecord, metersIn, OpeningGives, openRecords, openList}
-use Rattle.scenarios.specs.Given.{refusalNumber, refusalIndex}
-use Rattle.scenarios.specs.declared.Refusal.{Refusal}
-use Rattle.scenarios.specs.declared.Refusal.the-variants.{Accepted, Version, Length, Capacity, AtRecord, Baud}
+use Rattle.refusals.specs.Refusals.{refusalNumber, refusalIndex}
+use Rattle.refusals.specs.declared.Refusal.{Refusal}
+use Rattle.refusals.specs.declared.Refusal.the-variants.{Accepted, Version, Length, Capacity, AtRecord, Baud}
 use Rattle.rules.specs.declared.Failing.{Failing}
 use Rattle.rules.specs.declared.Failing.the-variants.{BadPrimary, BadId, BadManufacturer, BadMedium, BadBaud, BadFault}
 use Rattle.bus.specs.Plain.{Plain}

@@ -7,7 +7,7 @@ use lib.ListN.{length, take, drop, length-take}
 use lib.Seq.{take-take}
 use Rattle.laws.proofs.Copy.{take-min}
 use Rattle.bus.specs.declared.Segment.{Segment}
-use Rattle.bus.specs.Steps.{withQueue}
+use Rattle.bus.specs.Plain.{withQueue}
 use Rattle.bus.specs.Calls.{Received, receive}
 use Rattle.bus.specs.View.{plainOf}
 

@@ -1,18 +1,14 @@
--- Opening, send, receive, clear and baud change: 01's number (0: accepted), what is handed out, and the segment afterwards.
-use mathlib.Core.Bool.{Bool, not}
+-- Opening, receive, clear and baud change: 01's number (0: accepted), what is handed out, and the segment afterwards.
+use mathlib.Core.Bool.{Bool}
 use mathlib.Core.List.{List, [], _++_}
 use Prim.Native.Nat.{ℕ, min}
 use lib.Ieee.{Float}
-use lib.Dec.{ltb}
 use lib.ListN.{length, take, drop}
 use Rattle.laws.specs.Words.{if_then_else_}
-use Rattle.clock.specs.declared.Clock.{Clock}
-use Rattle.clock.specs.Fields.{goodClock}
 use Rattle.meter.specs.Meter.{rates}
 use Rattle.rules.specs.Tables.{isRate}
 use Rattle.scenarios.specs.Opening.{opens, refuses, refusesRecord, openList}
-use Rattle.bus.specs.Plain.{Plain}
-use Rattle.bus.specs.Steps.{withInput, withQueue, settled}
+use Rattle.bus.specs.Plain.{Plain, withQueue}
 
 -- ---- opening
 
@@ -25,7 +21,7 @@ afterOpening list bus practice origin former =
       | refusesRecord rs ↦ former
     ]
 
--- ---- send
+-- ---- what a call comes to that is accepted or refused
 
 pub record Done : Type 0 where
   pub number : ℕ
@@ -37,17 +33,6 @@ accepted s = record { number = 0; segment = s }
 -- "a refused one changes nothing"
 abbrev pub refused : ℕ → Plain → Done
 refused n s = record { number = n; segment = s }
-
--- 15: "queue would pass 4,096"
-abbrev pub fitsQueue : Plain → Plain → Done
-fitsQueue s t = if ltb 4096 (length (t .queue)) then refused 15 s else accepted t
-
--- 13: "piece over 1,024"; 14: "a clock field out of range"; "The piece joins the waiting input.", and the steps are taken
-unfoldable pub send : List ℕ → Clock → Plain → Done
-send piece k s =
-    if ltb 1024 (length piece) then refused 13 s else
-    if not (goodClock k) then refused 14 s else
-    fitsQueue s (settled k (withInput (s .input ++ piece) s))
 
 -- ---- receive, clear, baud change
 

@@ -1,13 +1,9 @@
--- The plain segment (01, "The plain segment"), and how replies join (01, "Send, select, receive").
-use mathlib.Core.Bool.{Bool, true, false, _&&_}
-use mathlib.Core.List.{List, [], _∷_, _++_}
-use Prim.Native.Nat.{ℕ, zero, suc, max}
+-- The plain segment (01, "The plain segment").
+use mathlib.Core.Bool.{false}
+use mathlib.Core.List.{List, []}
+use Prim.Native.Nat.{ℕ}
 use lib.IntN.{pos}
 use lib.Ieee.{Float, fin}
-use lib.Dec.{eqb}
-use lib.Bits.{bitAnd}
-use lib.ListN.{length, getD}
-use Rattle.laws.specs.Words.{if_then_else_}
 use Rattle.meter.specs.PlainMeter.{PlainMeter}
 
 -- "It holds bus baud, origin, waiting input, queue and the meters in list order"
@@ -22,41 +18,9 @@ pub record Plain : Type 0 where
 unfoldable pub blank : Plain
 blank = record { baud = 2400; origin = fin false 0 (pos 0); input = []; queue = []; meters = [] }
 
--- ---- "Replies join thus"
+-- with other waiting input, and with another queue
+abbrev pub withInput : List ℕ → Plain → Plain
+withInput bs s = record { baud = s .baud; origin = s .origin; input = bs; queue = s .queue; meters = s .meters }
 
--- equal to E5
-abbrev pub isE5 : List ℕ → Bool
-isE5 [] = false
-isE5 (b ∷ []) = eqb b 0xE5
-isE5 (b ∷ c ∷ bs) = false
-
-abbrev pub allE5 : List (List ℕ) → Bool
-allE5 [] = true
-allE5 (r ∷ rs) = isE5 r && allE5 rs
-
--- "end to end"
-abbrev pub endToEnd : List (List ℕ) → List ℕ
-endToEnd [] = []
-endToEnd (r ∷ rs) = r ++ endToEnd rs
-
-abbrev pub longest : List (List ℕ) → ℕ
-longest [] = 0
-longest (r ∷ rs) = max (length r) (longest rs)
-
--- "bytewise AND, shorter ones filled with FF": the byte at a place i of all the replies
-abbrev pub overlaid : List (List ℕ) → ℕ → ℕ
-overlaid [] i = 0xFF
-overlaid (r ∷ rs) i = bitAnd (getD r i 0xFF) (overlaid rs i)
-
--- the bytes at n places from i on
-abbrev pub places : (ℕ → ℕ) → ℕ → ℕ → List ℕ
-places f i zero = []
-places f i (suc n) = f i ∷ places f (suc i) n
-
--- "none, nothing; one, itself; several all equal to E5, end to end; else bytewise AND", as long as the longest
-unfoldable pub joined : List (List ℕ) → List ℕ
-joined [] = []
-joined (r ∷ []) = r
-joined (r ∷ q ∷ rs) =
-    if allE5 (r ∷ q ∷ rs) then endToEnd (r ∷ q ∷ rs) else
-    places (overlaid (r ∷ q ∷ rs)) 0 (longest (r ∷ q ∷ rs))
+abbrev pub withQueue : List ℕ → Plain → Plain
+withQueue bs s = record { baud = s .baud; origin = s .origin; input = s .input; queue = bs; meters = s .meters }

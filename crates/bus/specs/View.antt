@@ -7,15 +7,12 @@ use lib.Ieee.{Float}
 use lib.ListN.{take}
 use Rattle.meter.specs.View.{plainMeter}
 use Rattle.scenarios.specs.Opening.{OpeningGives, openList}
-use Rattle.scenarios.specs.Given.{refusalNumber, refusalIndex}
+use Rattle.refusals.specs.Refusals.{refusalNumber, refusalIndex}
 use Rattle.bus.specs.declared.Segment.{Segment}
 use Rattle.bus.specs.declared.Opened.{Opened}
 use Rattle.bus.specs.declared.Received.{Received}
-use Rattle.bus.specs.declared.Sending.{Sending}
-use Rattle.bus.specs.declared.Sending.the-variants.{Accepted, PieceTooLong, ClockOutOfRange, QueueFull}
-use Rattle.bus.specs.declared.Sent.{Sent}
 use Rattle.bus.specs.declared.Changing.{Changing}
-use Rattle.bus.specs.declared.Changing.the-variants.{NoRate}
+use Rattle.bus.specs.declared.Changing.the-variants.{Accepted, NoRate}
 use Rattle.bus.specs.declared.Changed.{Changed}
 use Rattle.bus.specs.Plain.{Plain}
 use Rattle.bus.specs.Calls as calls
@@ -31,20 +28,9 @@ plainOf s =
       meters = map plainMeter (take (s .count) (s .meters));
     }
 
--- the number of what send answered
-abbrev pub sendingNumber : Sending → ℕ
-sendingNumber Accepted = 0
-sendingNumber PieceTooLong = 13
-sendingNumber ClockOutOfRange = 14
-sendingNumber QueueFull = 15
-
--- what send gave
-abbrev pub sentOf : Sent → calls.Done
-sentOf r = record { number = sendingNumber (r .answer); segment = plainOf (r .segment) }
-
 -- the number of what a baud change answered
 abbrev pub changingNumber : Changing → ℕ
-changingNumber Changing.Accepted = 0
+changingNumber Accepted = 0
 changingNumber NoRate = 10
 
 -- what a baud change gave

@@ -1,38 +1,40 @@
-// The simulated segment: a bus with its meters, and what opening, send, receive, clear and baud change do to it.
+// The simulated segment: a bus with its meters, and what opening, receive, clear and baud change do to it.
 ghost use mathlib.Core.Path.{_≡_};
 ghost use Rattle.bus.specs.Plain.{blank};
 ghost use Rattle.bus.specs.Calls;
-ghost use Rattle.bus.specs.View.{plainOf, receivedOf, sentOf, changedOf, Opens};
-use clock::Clock;
-use clock::good_clock;
+ghost use Rattle.bus.specs.View.{plainOf, receivedOf, changedOf, Opens};
+use laws::least;
 use meter::Meter;
-use scenarios::Refusal;
+use refusals::Refusal;
 
-mod join;
-mod line;
 mod queue;
-mod settle;
 
 // As many meters as a segment can have.
 pub const METERS: usize = scenarios::METERS;
+
+// The longest incomplete telegram.
+pub const INPUT: usize = 260;
+
+// As many bytes as can be queued.
+pub const QUEUE: usize = 4096;
 
 pub struct Segment {
     pub meters: [Meter; METERS],
     pub count: usize,
     pub baud: u32,
     pub origin: f64,
-    pub input: [u8; line::INPUT],
+    pub input: [u8; INPUT],
     pub waiting: usize,
-    pub queue: [u8; queue::QUEUE],
+    pub queue: [u8; QUEUE],
     pub queued: usize,
 }
 
-fn blank_input() -> [u8; line::INPUT] {
-    [0u8; line::INPUT]
+fn blank_input() -> [u8; INPUT] {
+    [0u8; INPUT]
 }
 
-fn blank_queue() -> [u8; queue::QUEUE] {
-    [0u8; queue::QUEUE]
+fn blank_queue() -> [u8; QUEUE] {
+    [0u8; QUEUE]
 }
 
 impl Segment {
@@ -68,7 +70,7 @@ pub fn open(segment: Segment, list: &[u8], baud: u32, practice: bool, origin: f6
 {
     let m = scenarios::meters_of(list, baud, practice);
     let answer = m.refusal;
-    if !scenarios::opening::is_accepted(answer) {
+    if !refusals::is_accepted(answer) {
         return Opened {
             answer: answer,
             segment: segment,
@@ -93,42 +95,6 @@ pub fn open(segment: Segment, list: &[u8], baud: u32, practice: bool, origin: f6
     }
 }
 
-// What send answers: accepted; 13, 14 and 15 of the places of refusal.
-pub enum Sending {
-    Accepted,
-    PieceTooLong,
-    ClockOutOfRange,
-    QueueFull,
-}
-
-pub struct Sent {
-    pub answer: Sending,
-    pub segment: Segment,
-}
-
-// The piece joins the waiting input, and complete telegrams are handled in turn. A refused send changes nothing.
-pub fn send(segment: Segment, piece: &[u8], clock: Clock) -> Sent
-    ensures { λ r. ⌜ sentOf r ≡ Calls.send (now (piece .entry)) clock (plainOf segment) ⌝ }
-{
-    if line::PIECE < piece.len() {
-        return Sent {
-            answer: Sending::PieceTooLong,
-            segment: segment,
-        };
-    }
-    if !good_clock(clock) {
-        return Sent {
-            answer: Sending::ClockOutOfRange,
-            segment: segment,
-        };
-    }
-    let waiting = queue::least(segment.waiting, line::INPUT);
-    let input = segment.input;
-    let bytes = line::line_of(input, waiting, piece);
-    let end = waiting + piece.len();
-    settle::settle(segment, &bytes[..end], clock)
-}
-
 pub struct Received {
     pub count: usize,
     pub segment: Segment,
@@ -139,8 +105,8 @@ pub fn receive(segment: Segment, lent: &mut [u8]) -> Received
     ensures { λ r. ⌜ receivedOf r (now (lent .exit)) ≡ Calls.receive (now (lent .entry)) (plainOf segment) ⌝ }
 {
     let mut t = segment;
-    let queued = queue::least(t.queued, queue::QUEUE);
-    let n = queue::least(32, queue::least(lent.len(), queued));
+    let queued = least(t.queued, QUEUE);
+    let n = least(32, least(lent.len(), queued));
     queue::hand_out(&t.queue, n, lent);
     queue::shift(&mut t.queue, n, queued);
     t.queued = queued - n;

@@ -21,14 +21,15 @@ use Rattle.clock.specs.declared.Clock.{Clock}
 use Rattle.clock.proofs.Clock as clock
 use Rattle.clock.proofs.Clock.Laws as clock-laws
 use Rattle.bus.specs.declared.Segment.{Segment}
-use Rattle.bus.specs.declared.Sent.{Sent}
-use Rattle.bus.specs.Calls.{send}
-use Rattle.bus.specs.View.{plainOf, sentOf}
+use Rattle.bus.specs.View.{plainOf}
 use Rattle.bus.proofs.Segment.Laws as segment-laws
-use Rattle.bus.proofs.Sent.Laws as sent-laws
-use Rattle.bus.proofs.send as send-contract
-use Rattle.bus.proofs.send.Symbol.{routine as send-routine}
-use Rattle.bus.proofs.send.Met as send-met
+use Rattle.send.specs.declared.Sent.{Sent}
+use Rattle.send.specs.Send.{send}
+use Rattle.send.specs.View.{sentOf}
+use Rattle.send.proofs.Sent.Laws as sent-laws
+use Rattle.send.proofs.send as send-contract
+use Rattle.send.proofs.send.Symbol.{routine as send-routine}
+use Rattle.send.proofs.send.Met as send-met
 use Rattle.calls.specs.Fit.{Bytes, FitClock}
 use Rattle.calls.specs.Made.{withBytes, lentAt}
 use Rattle.calls.proofs.Machine.{said}

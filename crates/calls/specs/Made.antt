@@ -13,10 +13,10 @@ use prog.Routine.{ends}
 use denote.Slice.{sliceVal}
 use Rattle.clock.proofs.Clock.Laws.{lowered as clock-value}
 use Rattle.bus.proofs.open.Symbol.{routine as open-routine}
-use Rattle.bus.proofs.send.Symbol.{routine as send-routine}
 use Rattle.bus.proofs.receive.Symbol.{routine as receive-routine}
 use Rattle.bus.proofs.clear.Symbol.{routine as clear-routine}
 use Rattle.bus.proofs.set_baud.Symbol.{routine as set-baud-routine}
+use Rattle.send.proofs.send.Symbol.{routine as send-routine}
 use Rattle.search.proofs.EntryRecord.Laws.{mir as record-ty, lowered as record-value}
 use Rattle.search.proofs.search.Symbol.{routine as search-routine}
 use Rattle.search.specs.declared.EntryRecord.{EntryRecord}

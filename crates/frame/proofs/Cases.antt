@@ -7,12 +7,13 @@ use native.Mathlib.Omega.{arith}
 use lib.Dec.{eqb}
 use borrow.Author.Tests.{lt-ltb, le-ltb, eq-eqb, ne-eqb}
 use lib.ListN.{length, take, drop, length-drop}
-use lib.Seq.{take-suc}
+use lib.Seq.{take-suc, length-take-le}
 use native.Mathlib.Numerals.{add-one}
 use Rattle.laws.specs.Words.{if_then_else_, at}
 use Rattle.laws.proofs.Copy.{take-min}
-use Rattle.frame.specs.View.{dataAt}
-use Rattle.frame.specs.Frame.{ack, long, checksum, stop, header, badLength, start, complete, incomplete, invalid, added, sum, parseShort, parseBody, parseLong, parse}
+use Rattle.frame.specs.declared.Outcome.{Outcome}
+use Rattle.frame.specs.View.{dataAt, parsedOf, lengthTold, dataLength, Finds}
+use Rattle.frame.specs.Frame.{ack, long, checksum, stop, header, badLength, start, Parsed, complete, incomplete, invalid, added, sum, parseShort, parseBody, parseLong, parse}
 use Rattle.frame.proofs.RoundTrip.{parseLong-is, parseBody-is, parseBody-fails}
 
 added-snoc : (xs : List ℕ) (x : ℕ) → added (xs ++ x ∷ []) ≡ added xs + x
@@ -35,10 +36,12 @@ sum-snoc xs x = rw (added-snoc xs x) (omega arith)
 pub sum-more : (s : List ℕ) (i : ℕ) → i < length s → sum (take (i + 1) s) ≡ (sum (take i s) + at s i) % 2 ^ 8
 sum-more s i h = ap (λ n. sum (take n s)) (add-one i) ∙ ap sum (take-suc s i 0 h) ∙ sum-snoc (take i s) (at s i)
 
--- C, A and CI in front of the data
-pub sum-long : (c a ci : ℕ) (d : List ℕ) → (((c + a) % 2 ^ 8 + ci) % 2 ^ 8 + sum d) % 2 ^ 8 ≡ sum (c ∷ a ∷ ci ∷ d)
-unfolding sum
-sum-long c a ci d = omega arith
+-- an outcome tells what was found where its number of data bytes is right for its own telegram
+pub found : {bs : List ℕ} {r : Outcome} {p : Parsed} → parsedOf bs r ≡ p → lengthTold r ≡ dataLength (parsedOf bs r) → Finds bs p r
+found e f = record { tells = e; counts = f ∙ ap dataLength e }
+
+pub found-as : {bs : List ℕ} {r : Outcome} {p q : Parsed} → Finds bs p r → p ≡ q → Finds bs q r
+found-as h e = record { tells = h .tells ∙ e; counts = h .counts ∙ ap dataLength e }
 
 -- parse, by the byte in front
 pub parse-none : (bs : List ℕ) → length bs ≡ 0 → parse bs ≡ incomplete
@@ -106,6 +109,10 @@ long-stop bs l h e f = whole-body bs l h ∙ rw (eq-eqb (at bs (4 + l)) (sum (ta
 pub long-whole : (bs : List ℕ) (l : ℕ) → Whole bs l → at bs (4 + l) ≡ sum (take l (drop 4 bs)) → at bs (5 + l) ≡ 0x16
     → complete (long (at bs 4) (at bs 5) (at bs 6) (take (l - 3) (drop 7 bs))) (l + 6) ≡ parseLong bs
 long-whole bs l h e f = sym (whole-body bs l h ∙ parseBody-is l bs e f)
+
+-- and all of its data are there
+pub whole-data : (bs : List ℕ) (l : ℕ) → Whole bs l → l - 3 ≡ length (dataAt bs (l - 3))
+whole-data bs l h = sym (length-take-le (l - 3) (drop 7 bs) (omega (arith, length-drop 7 bs)))
 
 -- ---- the data, cut where the bytes end
 

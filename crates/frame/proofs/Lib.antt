@@ -4,4 +4,3 @@ pub mod RoundTrip
 pub mod Theorems
 pub mod Waiting
 pub mod Worked
-pub mod WritingLaws

@@ -1,13 +1,7 @@
--- The telegrams of 01's table.
+-- A telegram of 01's table.
 use mathlib.Core.Path.{_≡_, refl}
 use mathlib.Core.List.{[], _∷_}
-use lib.ListN.{replicate}
-use Rattle.frame.specs.Frame.{long, encode, sum, sndUd}
-
--- (a) the wildcard probe: SND_UD to FD, CI 52, eight bytes FF
-pub wildcard : encode (sndUd 0xFD 0x52 (replicate 8 0xFF)) ≡ 0x68 ∷ 0x0B ∷ 0x0B ∷ 0x68 ∷ 0x53 ∷ 0xFD ∷ 0x52 ∷ 0xFF ∷ 0xFF ∷ 0xFF ∷ 0xFF ∷ 0xFF ∷ 0xFF ∷ 0xFF ∷ 0xFF ∷ 0x9A ∷ 0x16 ∷ []
-unfolding encode sum
-wildcard = refl
+use Rattle.frame.specs.Frame.{long, encode, sum}
 
 -- (e) the busy answer of the meter at 11
 pub busy : encode (long 0x08 0x0B 0x70 (0x08 ∷ [])) ≡ 0x68 ∷ 0x04 ∷ 0x04 ∷ 0x68 ∷ 0x08 ∷ 0x0B ∷ 0x70 ∷ 0x08 ∷ 0x8B ∷ 0x16 ∷ []

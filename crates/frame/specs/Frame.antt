@@ -1,9 +1,8 @@
--- Telegrams (EN 13757-2; 01, "A probe goes out"): what they are, how bytes are read as one, how one is written.
-use mathlib.Core.Bool.{Bool, true, false, _&&_, not}
+-- Telegrams (EN 13757-2; 01, "A probe goes out"): what they are, their bytes, and how bytes are read as one.
+use mathlib.Core.Bool.{_&&_, not}
 use mathlib.Core.List.{List, [], _∷_, _++_}
-use Prim.Native.Nat.{ℕ, zero, suc, _+_, _-_, _%_}
+use Prim.Native.Nat.{ℕ, _+_, _-_, _%_}
 use lib.Dec.{eqb, ltb}
-use lib.Bits.{bitAnd}
 use lib.ListN.{length, take, drop}
 use Rattle.laws.specs.Words.{if_then_else_, at}
 
@@ -12,6 +11,12 @@ pub data Telegram : Type 0 where
   ack : Telegram
   short : ℕ → ℕ → Telegram
   long : ℕ → ℕ → ℕ → List ℕ → Telegram
+
+-- ACK and short have no data
+abbrev pub dataOf : Telegram → List ℕ
+dataOf ack = []
+dataOf (short c a) = []
+dataOf (long c a ci d) = d
 
 -- ---- the bytes of a telegram
 
@@ -73,42 +78,3 @@ parse (b ∷ bs) =
     if eqb b 0x10 then parseShort (b ∷ bs) else
     if eqb b 0x68 then parseLong (b ∷ bs) else
     invalid start
-
--- ---- the telegram writer: 01's number (0, 11 or 12), how many bytes were written, and the lent bytes afterwards
-
-abbrev pub dataOf : Telegram → List ℕ
-dataOf ack = []
-dataOf (short c a) = []
-dataOf (long c a ci d) = d
-
-pub record Written : Type 0 where
-  pub number : ℕ
-  pub count : ℕ
-  pub lent : List ℕ
-
--- 11: data over 252; 12: lent bytes too few; a refusal writes nothing, and lent bytes past the telegram stay
-unfoldable pub write : Telegram → List ℕ → Written
-write t lent =
-    if ltb 252 (length (dataOf t)) then record { number = 11; count = 0; lent = lent } else
-    if ltb (length lent) (length (encode t)) then record { number = 12; count = 0; lent = lent } else
-    record { number = 0; count = length (encode t); lent = encode t ++ drop (length (encode t)) lent }
-
--- ---- the telegrams of a master, and what it takes for an answer
-
--- SND_NKE (40)
-abbrev pub sndNke : ℕ → Telegram
-sndNke a = short 0x40 a
-
--- REQ_UD2: 5B, with the alternation bit FCB (20) where it is set
-abbrev pub reqUd2 : ℕ → Bool → Telegram
-reqUd2 a fcb = short (if fcb then 0x7B else 0x5B) a
-
--- SND_UD (53)
-abbrev pub sndUd : ℕ → ℕ → List ℕ → Telegram
-sndUd a ci d = long 0x53 a ci d
-
--- RSP_UD: long, C masked with CF is 08
-abbrev pub isRspUd : Telegram → Bool
-isRspUd ack = false
-isRspUd (short c a) = false
-isRspUd (long c a ci d) = eqb (bitAnd c 0xCF) 0x08

@@ -1,17 +1,16 @@
 -- The program's values in the terms of the definitions.
-use mathlib.Core.List.{List, []}
+use mathlib.Core.Path.{_≡_}
+use mathlib.Core.List.{List}
 use Prim.Native.Nat.{ℕ}
-use lib.ListN.{take, drop}
+use lib.ListN.{length, take, drop}
 use Rattle.frame.specs.Frame as definitions
-use Rattle.frame.specs.Frame.{Telegram, ack, short, long, Parsed, complete, incomplete, invalid, checksum, stop, header, badLength, start}
+use Rattle.frame.specs.Frame.{Telegram, ack, short, long, Parsed, complete, incomplete, invalid, checksum, stop, header, badLength, start, dataOf}
 use Rattle.frame.specs.declared.Frame.{Frame}
 use Rattle.frame.specs.declared.Frame.the-variants.{Ack, Short, Long}
 use Rattle.frame.specs.declared.Why.{Why}
 use Rattle.frame.specs.declared.Why.the-variants.{Checksum, Stop, Header, Length, Start}
 use Rattle.frame.specs.declared.Outcome.{Outcome}
 use Rattle.frame.specs.declared.Outcome.the-variants.{Complete, Incomplete, Invalid}
-use Rattle.frame.specs.declared.Written.{Written}
-use Rattle.frame.specs.declared.Written.the-variants.{Bytes, DataTooLong, NoRoom}
 
 -- a frame with the data that stand beside it; ACK and short have none
 abbrev pub telegramOf : Frame → List ℕ → Telegram
@@ -36,17 +35,18 @@ parsedOf bs (Complete frame len used) = complete (telegramOf frame (dataAt bs le
 parsedOf bs Incomplete = incomplete
 parsedOf bs (Invalid why) = invalid (whyOf why)
 
--- 01's number for what writing answered, and the bytes written
-abbrev pub numberOf : Written → ℕ
-numberOf (Bytes n) = 0
-numberOf DataTooLong = 11
-numberOf NoRoom = 12
+-- the number of data bytes that is told, and that of what was found: none where there is no telegram
+abbrev pub lengthTold : Outcome → ℕ
+lengthTold (Complete frame len used) = len
+lengthTold Incomplete = 0
+lengthTold (Invalid why) = 0
 
-abbrev pub countOf : Written → ℕ
-countOf (Bytes n) = n
-countOf DataTooLong = 0
-countOf NoRoom = 0
+abbrev pub dataLength : Parsed → ℕ
+dataLength (complete t n) = length (dataOf t)
+dataLength incomplete = 0
+dataLength (invalid w) = 0
 
--- what writing answered, with the lent bytes afterwards
-abbrev pub writtenOf : Written → List ℕ → definitions.Written
-writtenOf w lent = record { number = numberOf w; count = countOf w; lent = lent }
+-- r tells what parsing bs finds, which is p; and the number of data bytes also of an ACK and a short telegram, where no data show it
+pub record Finds (bs : List ℕ) (p : Parsed) (r : Outcome) : Type 0 where
+  pub tells : parsedOf bs r ≡ p
+  pub counts : lengthTold r ≡ dataLength p

@@ -1,23 +1,11 @@
-// M-Bus link layer (EN 13757-2): telegrams read from bytes and written into lent bytes.
+// M-Bus link layer (EN 13757-2): telegrams, and how they are read from bytes.
 ghost use mathlib.Core.Path.{_≡_};
-ghost use mathlib.Core.List.{List, [], _∷_, _++_};
-ghost use Prim.Native.Nat.{ℕ, _+_, _<_, _≤_, min};
-ghost use lib.ListN.{length, take, drop};
-ghost use Rattle.frame.specs.Frame.{ack, short, long, sum, parseShort, parseLong, write, sndNke, reqUd2, sndUd, isRspUd};
-ghost use Rattle.frame.specs.View.{telegramOf, dataAt, parsedOf, writtenOf};
+ghost use Rattle.frame.specs.Frame.{sum, parseShort, parseLong};
+ghost use Rattle.frame.specs.View.{dataAt, Finds};
+use laws::least;
 
-mod writing; // writing.rt: a telegram written into lent bytes
-
-// ACK, and the control fields of the telegrams that a master sends.
+// The one byte of an ACK.
 pub const ACK: u8 = 0xE5;
-
-pub const C_SND_NKE: u8 = 0x40;
-
-pub const C_SND_UD: u8 = 0x53;
-
-pub const C_REQ_UD2: u8 = 0x5B;
-
-pub const FCB: u8 = 0x20;
 
 // The selected meters; all, which reply; all, which do not reply.
 pub const ADDR_SELECTED: u8 = 0xFD;
@@ -60,12 +48,10 @@ pub enum Outcome {
     Invalid(Why),
 }
 
-// What writing answers: the number of bytes written, or a refusal.
-pub enum Written {
-    Bytes(usize),
-    DataTooLong,
-    NoRoom,
-}
+// The data bytes of an ACK and of a short telegram.
+const ACK_DATA: usize = 0;
+
+const SHORT_DATA: usize = 0;
 
 // The sum modulo 256.
 pub fn checksum(bytes: &[u8]) -> u8
@@ -87,15 +73,9 @@ fn wide(b: u8) -> usize
     b as usize
 }
 
-fn least(a: usize, b: usize) -> usize
-    ensures { λ r. ⌜ r ≡ min a b ⌝ }
-{
-    if a < b { a } else { b }
-}
-
 // Bytes that begin with 10.
 fn parse_short(s: &[u8]) -> Outcome
-    ensures { λ r. ⌜ parsedOf (now (s .entry)) r ≡ parseShort (now (s .entry)) ⌝ }
+    ensures { λ r. ⌜ Finds (now (s .entry)) (parseShort (now (s .entry))) r ⌝ }
 {
     if s.len() < 5 {
         return Outcome::Incomplete;
@@ -113,14 +93,14 @@ fn parse_short(s: &[u8]) -> Outcome
             control: c,
             address: a,
         },
-        len: 0,
+        len: SHORT_DATA,
         used: 5,
     }
 }
 
 // Bytes that begin with 68.
 fn parse_long(s: &[u8]) -> Outcome
-    ensures { λ r. ⌜ parsedOf (now (s .entry)) r ≡ parseLong (now (s .entry)) ⌝ }
+    ensures { λ r. ⌜ Finds (now (s .entry)) (parseLong (now (s .entry))) r ⌝ }
 {
     if s.len() < 4 {
         return Outcome::Incomplete;
@@ -158,7 +138,7 @@ fn parse_long(s: &[u8]) -> Outcome
 
 // The telegram in front of some bytes.
 pub fn parse(s: &[u8]) -> Outcome
-    ensures { λ r. ⌜ parsedOf (now (s .entry)) r ≡ Rattle.frame.specs.Frame.parse (now (s .entry)) ⌝ }
+    ensures { λ r. ⌜ Finds (now (s .entry)) (Rattle.frame.specs.Frame.parse (now (s .entry))) r ⌝ }
 {
     if s.len() == 0 {
         return Outcome::Incomplete;
@@ -167,7 +147,7 @@ pub fn parse(s: &[u8]) -> Outcome
     if b == ACK {
         return Outcome::Complete {
             frame: Frame::Ack,
-            len: 0,
+            len: ACK_DATA,
             used: 1,
         };
     }
@@ -187,76 +167,4 @@ pub fn data_of(s: &[u8], len: usize) -> &[u8]
     let from = least(7, s.len());
     let n = least(len, s.len() - from);
     &s[from..from + n]
-}
-
-// ---- the telegrams of a master, and what it takes for an answer
-
-pub fn snd_nke(address: u8) -> Frame
-    ensures { λ r. ⌜ ((d : List ℕ) → telegramOf r d ≡ sndNke address) ⌝ }
-{
-    Frame::Short {
-        control: C_SND_NKE,
-        address: address,
-    }
-}
-
-pub fn req_ud2(address: u8, fcb: bool) -> Frame
-    ensures { λ r. ⌜ ((d : List ℕ) → telegramOf r d ≡ reqUd2 address fcb) ⌝ }
-{
-    if fcb {
-        return Frame::Short {
-            control: C_REQ_UD2 | FCB,
-            address: address,
-        };
-    }
-    Frame::Short {
-        control: C_REQ_UD2,
-        address: address,
-    }
-}
-
-// Its data stand beside it.
-pub fn snd_ud(address: u8, ci: u8) -> Frame
-    ensures { λ r. ⌜ ((d : List ℕ) → telegramOf r d ≡ sndUd address ci d) ⌝ }
-{
-    Frame::Long {
-        control: C_SND_UD,
-        address: address,
-        ci: ci,
-    }
-}
-
-// An answer with user data: the bits ACD and DFC of the control field may be set.
-pub fn is_rsp_ud(f: Frame) -> bool
-    ensures { λ r. ⌜ ((d : List ℕ) → r ≡ isRspUd (telegramOf f d)) ⌝ }
-{
-    match f {
-        Frame::Ack => false,
-        Frame::Short {
-            control: _,
-            address: _,
-        } => false,
-        Frame::Long {
-            control,
-            address: _,
-            ci: _,
-        } => control & 0xCF == 0x08,
-    }
-}
-
-// ---- the telegram writer
-
-// The telegram into the first of the lent bytes, with the data beside it where it is long; a refusal writes nothing.
-pub fn encode(f: Frame, data: &[u8], lent: &mut [u8]) -> Written
-    ensures { λ r. ⌜ writtenOf r (now (lent .exit)) ≡ write (telegramOf f (now («data» .entry))) (now (lent .entry)) ⌝ }
-{
-    match f {
-        Frame::Ack => writing::encode_ack(lent),
-        Frame::Short { control, address } => writing::encode_short(control, address, lent),
-        Frame::Long {
-            control,
-            address,
-            ci,
-        } => writing::encode_long(control, address, ci, data, lent),
-    }
 }

@@ -11,8 +11,10 @@ use Rattle.laws.proofs.Lists.{if-all, if-with}
 use Rattle.frame.specs.Frame.{Telegram, ack, short, long}
 use Rattle.clock.specs.declared.Clock.{Clock}
 use Rattle.meter.specs.PlainMeter.{PlainMeter}
-use Rattle.meter.specs.Meter.{withSelected, matches, idMatches}
-use Rattle.hear.specs.Hear.{Heard, quiet, isNke, isReqUd2, fcbOf, isSndUd, isSelect, reaches, target, nke, request, select, commanded, listens, hear, concerns}
+use Rattle.meter.specs.Meter.{withSelected}
+use Rattle.matching.specs.Matching.{matches, idMatches}
+use Rattle.hear.specs.Hear.{Heard, quiet, isNke, isReqUd2, fcbOf, isSndUd, isSelect, reaches, target, nke, request, select, commanded, listens, hear}
+use Rattle.hear.specs.Concern.{concerns}
 
 or-none : (a b : Bool) → (a || b) ≡ false → (a ≡ false) × (b ≡ false)
 or-none false b h = (refl, h)

@@ -12,7 +12,9 @@ use Rattle.frame.specs.Frame.{Telegram, short, long}
 use Rattle.hear.proofs.KeepLaws.{hear-same}
 use Rattle.meter.specs.PlainMeter.{PlainMeter}
 use Rattle.clock.specs.declared.Clock.{Clock}
-use Rattle.meter.specs.Meter.{withSelected, reset, flaky, hears, put, matches, asked}
+use Rattle.meter.specs.Meter.{withSelected, reset, flaky, hears, put}
+use Rattle.asking.specs.Asking.{asked}
+use Rattle.matching.specs.Matching.{matches}
 use Rattle.readout.specs.Response.{readout}
 use Rattle.hear.specs.Hear.{silence, says, Heard, quiet, answers, E5, target, request, select, listens, hear}
 

@@ -13,7 +13,9 @@ use Rattle.laws.proofs.Lists.{if-all, if-with}
 use Rattle.frame.specs.Frame.{Telegram, ack, short, long, dataOf}
 use Rattle.meter.specs.PlainMeter.{PlainMeter}
 use Rattle.clock.specs.declared.Clock.{Clock}
-use Rattle.meter.specs.Meter.{rates, withPrimary, withBaud, withSelected, withHearsNext, reset, flaky, hears, put, matches, asked}
+use Rattle.meter.specs.Meter.{rates, withPrimary, withBaud, withSelected, withHearsNext, reset, flaky, hears, put}
+use Rattle.asking.specs.Asking.{asked}
+use Rattle.matching.specs.Matching.{matches}
 use Rattle.hear.specs.Hear.{Heard, isNke, isReqUd2, fcbOf, isSndUd, isSelect, setsPrimary, setsBaud, target, nke, request, select, commanded, listens, hear}
 
 -- a telegram with a CI of B8 to BF and no data

@@ -10,7 +10,7 @@ use lib.ListN.{length, take, set, length-append}
 use Rattle.laws.specs.Words.{at, Every}
 use Rattle.laws.proofs.Lists.{if-all}
 use Rattle.frame.specs.Frame.{Telegram, ack, short, long, sum, encode, dataOf}
-use Rattle.values.specs.Values.{idBytes}
+use Rattle.identity.specs.Identity.{idBytes}
 use Rattle.seconds.specs.Seconds.{whole, last32}
 use Rattle.meter.specs.PlainMeter.{PlainMeter}
 use Rattle.clock.specs.declared.Clock.{Clock}
@@ -18,12 +18,14 @@ use Rattle.meter.specs.declared.Fault.{Fault}
 use Rattle.meter.specs.declared.Fault.the-variants.{None, Checksum, Truncated, Busy, WrongAddress, Flaky, TooMany}
 use Rattle.meter.specs.declared.Model.{Model}
 use Rattle.meter.specs.declared.Model.the-variants.{Heat, Electricity, Water, Fixed}
-use Rattle.meter.specs.Meter.{hears, put, matches, asked}
+use Rattle.meter.specs.Meter.{hears, put}
+use Rattle.asking.specs.Asking.{asked}
+use Rattle.matching.specs.Matching.{matches}
 use Rattle.readout.specs.Response.{address, userData, error, response, damaged, readout}
 use Rattle.hear.specs.Hear.{Reply, silence, says, Heard, E5, isNke, isReqUd2, fcbOf, isSndUd, isSelect, setsPrimary, setsBaud, target, nke, request, select, commanded, listens, hear}
 use Rattle.readout.proofs.ReadoutLaws.{userData-shape, length-id, readout-short}
 use Rattle.hear.proofs.KeepLaws.{Closed, put-keeps, hear-keeps}
-use Rattle.readout.proofs.ByteLaws.{Bytes, Small, none, one, cat, fixed-bytes, head-bytes, heat-first-bytes, heat-second-bytes, electricity-bytes, water-bytes}
+use Rattle.userdata.proofs.ByteLaws.{Bytes, Small, none, one, cat, fixed-bytes, head-bytes, heat-first-bytes, heat-second-bytes, electricity-bytes, water-bytes}
 
 -- ---- the telegram
 

@@ -9,7 +9,8 @@ use Rattle.laws.specs.Words.{if_then_else_}
 use Rattle.frame.specs.Frame.{Telegram}
 use Rattle.meter.specs.PlainMeter.{PlainMeter}
 use Rattle.clock.specs.declared.Clock.{Clock}
-use Rattle.meter.specs.Meter.{withSelected, reset, hears, put, matches}
+use Rattle.meter.specs.Meter.{withSelected, reset, hears, put}
+use Rattle.matching.specs.Matching.{matches}
 use Rattle.hear.specs.Hear.{quiet, answers, E5, nke, select, listens, hear}
 use Rattle.hear.proofs.HearLaws.{select-selected, put-selected}
 

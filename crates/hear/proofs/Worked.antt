@@ -6,7 +6,9 @@ use Prim.Native.Nat.{ℕ}
 use lib.IntN.{pos}
 use lib.Ieee.{Float, fin}
 use Rattle.frame.specs.Frame.{short, encode, sum}
-use Rattle.values.specs.Values.{little, bcd, typeG, typeF, idBytes, digitsOf}
+use Rattle.values.specs.Values.{little, bcd}
+use Rattle.identity.specs.Identity.{idBytes, digitsOf}
+use Rattle.dates.specs.Dates.{typeG, typeF}
 use Rattle.seconds.specs.Seconds.{whole}
 use Rattle.meter.specs.PlainMeter.{PlainMeter}
 use Rattle.clock.specs.declared.Clock.{Clock}
@@ -16,8 +18,10 @@ use Rattle.meter.specs.declared.LastFcb.{LastFcb}
 use Rattle.meter.specs.declared.LastFcb.the-variants.{Never, Clear}
 use Rattle.meter.specs.declared.Model.{Model}
 use Rattle.meter.specs.declared.Model.the-variants.{Heat, Electricity, Water, Fixed}
-use Rattle.meter.specs.Meter.{hears, put, asked}
-use Rattle.readout.specs.Response.{fixedData, head, clockF, heatFirst, heatSecond, electricity, water, userData, response, damaged, readout}
+use Rattle.meter.specs.Meter.{hears, put}
+use Rattle.asking.specs.Asking.{asked}
+use Rattle.readout.specs.Response.{userData, response, damaged, readout}
+use Rattle.userdata.specs.UserData.{fixedData, head, clockF, heatFirst, heatSecond, electricity, water}
 use Rattle.hear.specs.Hear.{Reply, says, target, request, listens, hear}
 
 -- ---- the paper's table

@@ -10,7 +10,9 @@ use Rattle.laws.specs.Words.{if_then_else_, at}
 use Rattle.frame.specs.Frame.{Telegram, ack, short, long}
 use Rattle.meter.specs.PlainMeter.{PlainMeter}
 use Rattle.clock.specs.declared.Clock.{Clock}
-use Rattle.meter.specs.Meter.{rates, withPrimary, withBaud, withSelected, reset, hears, put, matches, idMatches, asked}
+use Rattle.meter.specs.Meter.{rates, withPrimary, withBaud, withSelected, reset, hears, put}
+use Rattle.asking.specs.Asking.{asked}
+use Rattle.matching.specs.Matching.{matches}
 use Rattle.readout.specs.Response.{readout}
 
 -- no reply, or its bytes
@@ -118,12 +120,3 @@ listens (long c a ci d) elapsed k m =
 -- "Only meters at bus baud listen."
 unfoldable pub hear : ℕ → Telegram → Float → Clock → PlainMeter → Heard
 hear bus t elapsed k m = if eqb (m .baud) bus then listens t elapsed k m else quiet m
-
--- ---- who need not be asked
-
--- whether a telegram can do anything to a meter with this primary address, selection and id: a select to a selected meter and to one
--- whose id it matches, any other to its target
-unfoldable pub concerns : Telegram → (primary : ℕ) → (selected : Bool) → (digits : List ℕ) → Bool
-concerns ack primary selected digits = false
-concerns (short c a) primary selected digits = reaches a primary selected
-concerns (long c a ci d) primary selected digits = if isSelect ci a then selected || idMatches d digits else reaches a primary selected

@@ -1,2 +1,3 @@
+pub mod Concern
 pub mod Hear
 pub mod View

@@ -2,10 +2,11 @@
 ghost use mathlib.Core.Path.{_≡_};
 ghost use lib.Ieee.{Float};
 ghost use Rattle.frame.specs.View.{telegramOf};
-ghost use Rattle.values.specs.Values.{digitsOf};
+ghost use Rattle.identity.specs.Identity.{digitsOf};
 ghost use Rattle.clock.specs.declared.Clock.{Clock};
 ghost use Rattle.meter.specs.View.{plainMeter};
-ghost use Rattle.hear.specs.Hear.{hear, concerns};
+ghost use Rattle.hear.specs.Hear.{hear};
+ghost use Rattle.hear.specs.Concern.{concerns};
 ghost use Rattle.hear.specs.View.{heardOf};
 use frame::Frame;
 use meter::Meter;

@@ -9,10 +9,9 @@ ghost use Rattle.hear.specs.View.{heardOf};
 use super::Answer;
 use super::Heard;
 use super::telegrams;
+use asking::asked;
 use meter::Meter;
-use meter::asking::asked;
 use meter::hearing;
-use meter::matching;
 
 // The meter with no reply.
 pub(crate) fn quiet(m: Meter) -> Heard

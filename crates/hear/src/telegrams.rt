@@ -4,16 +4,17 @@ ghost use mathlib.Core.Bool.{_||_};
 ghost use Prim.Native.Nat.{ℕ};
 ghost use lib.Dec.{eqb};
 ghost use Rattle.frame.specs.Frame.{long};
-ghost use Rattle.values.specs.Values.{digitsOf};
-ghost use Rattle.hear.specs.Hear.{isNke, isReqUd2, fcbOf, isSndUd, isSelect, setsPrimary, setsBaud, reaches, target, concerns};
+ghost use Rattle.identity.specs.Identity.{digitsOf};
+ghost use Rattle.hear.specs.Hear.{isNke, isReqUd2, fcbOf, isSndUd, isSelect, setsPrimary, setsBaud, reaches, target};
+ghost use Rattle.hear.specs.Concern.{concerns};
 ghost use Rattle.meter.specs.View.{plainMeter};
+use matching::id_matches;
 use meter::Meter;
-use meter::matching::id_matches;
 
 pub(crate) fn is_nke(control: u8) -> bool
     ensures { λ r. ⌜ r ≡ isNke control ⌝ }
 {
-    control == frame::C_SND_NKE
+    control == master::C_SND_NKE
 }
 
 pub(crate) fn is_req_ud2(control: u8) -> bool
@@ -25,7 +26,7 @@ pub(crate) fn is_req_ud2(control: u8) -> bool
 pub(crate) fn fcb_of(control: u8) -> bool
     ensures { λ r. ⌜ r ≡ fcbOf control ⌝ }
 {
-    control & frame::FCB != 0
+    control & master::FCB != 0
 }
 
 pub(crate) fn is_snd_ud(control: u8) -> bool

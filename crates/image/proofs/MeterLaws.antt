@@ -1,4 +1,4 @@
--- Meters from their bytes: a meter by its fields, and the loops that read and write them.
+-- Meters one behind the other, and the loops that read and write them.
 use mathlib.Core.Path.{_≡_, refl, sym, ap, ap₂, subst, _∙_}
 use mathlib.Core.List.{List, [], _∷_, _++_, map, map-append}
 use Prim.Native.Nat.{ℕ, zero, suc, _+_, _*_, _≤_, _<_}
@@ -6,20 +6,13 @@ use native.Mathlib.Numerals.{add-one}
 use native.Mathlib.Omega.{arith}
 use lib.ListN.{length, take, drop, set, getD, length-drop, length-append}
 use lib.Seq.{paste, take-append-le, drop-drop, take-take, take-all, take-suc, take-suc-set, length-paste}
-use Rattle.laws.specs.Words.{at}
 use Rattle.laws.proofs.Copy.{drop-take}
 use Rattle.meter.specs.PlainMeter.{PlainMeter}
 use Rattle.meter.specs.View.{plainMeter}
 use Rattle.meter.specs.declared.Meter.{Meter}
-use Rattle.image.specs.Image.{block, number, flagOf, modelOf, faultOf, lastOf, metered, meters}
+use Rattle.meter_image.specs.MeterBytes.{metered}
+use Rattle.image.specs.Image.{block, meters}
 use Rattle.image.proofs.Blocks.{paste-before, paste-at}
-
--- a meter, if each part says so
-pub meter-is : (bs : List ℕ) (m : Meter) → at bs 0 ≡ m .primary → number 4 1 bs ≡ m .id → number 2 5 bs ≡ m .manufacturer → at bs 7 ≡ m .version → at bs 8 ≡ m .medium
-    → modelOf (at bs 9) ≡ m .model → faultOf (at bs 10) ≡ m .fault → at bs 11 ≡ m .access → number 4 12 bs ≡ m .baud → flagOf (at bs 16) ≡ m .selected → at bs 17 ≡ m .part
-    → lastOf (at bs 18) ≡ m .last → at bs 19 ≡ m .readouts → number 4 20 bs ≡ m .seed → flagOf (at bs 24) ≡ m .hearing → metered bs ≡ plainMeter m
-unfolding metered
-meter-is bs m e₁ e₂ e₃ e₄ e₅ e₆ e₇ e₈ e₉ f₁ f₂ f₃ f₄ f₅ f₆ = rw (e₁, e₂, e₃, e₄, e₅, e₆, e₇, e₈, e₉, f₁, f₂, f₃, f₄, f₅, f₆)
 
 next : (i : ℕ) → 25 + 25 * i ≡ 25 * suc i
 next i = omega arith

@@ -11,8 +11,9 @@ use Rattle.meter.specs.View.{plainMeter}
 use Rattle.scenarios.specs.Opening.{capacity}
 use Rattle.bus.specs.View.{plainOf}
 use Rattle.bus.specs.declared.Segment.{Segment}
-use Rattle.image.specs.Image.{block, number, meters, imaged, Head}
-use Rattle.image.proofs.NumberLaws.{number-take}
+use Rattle.image.specs.Image.{block, meters, imaged, Head}
+use Rattle.numbers.specs.Number.{number}
+use Rattle.numbers.proofs.NumberLaws.{number-take}
 use Rattle.image.proofs.Blocks.{paste-before, paste-at, block-same}
 use Rattle.image.proofs.MeterLaws.{meters-front}
 

@@ -2,31 +2,25 @@
 // specs/Image.antt says where each part lies.
 ghost use mathlib.Core.Path.{_≡_};
 ghost use mathlib.Core.List.{map};
-ghost use Prim.Native.Nat.{_+_, _*_, _≤_, _<_, min};
+ghost use Prim.Native.Nat.{_+_, _*_, _≤_, _<_};
 ghost use lib.ListN.{length, take, drop};
 ghost use lib.Seq.{paste};
 ghost use Rattle.scenarios.specs.Opening.{capacity};
 ghost use Rattle.meter.specs.View.{plainMeter};
 ghost use Rattle.bus.specs.View.{plainOf};
-ghost use Rattle.image.specs.Image.{block, number, flagOf, modelOf, faultOf, lastOf, metered, meters, imaged, Head};
+ghost use Rattle.image.specs.Image.{block, meters, imaged, Head};
 use bus::METERS;
 use bus::Segment;
-use meter::Fault;
-use meter::LastFcb;
+use laws::least;
 use meter::Meter;
-use meter::Model;
+use meter_image::meters;
+use numbers::four;
+use numbers::two;
 
-mod meters; // meters.rt: a meter as 25 bytes
-mod numbers; // numbers.rt: numbers as bytes, and blocks of bytes
+mod copying; // copying.rt: the eight bytes of an f64's pattern, and blocks of bytes
 
 // The numbers, the input, the queue, and 25 bytes for each meter.
 pub const IMAGE: usize = 18 + 260 + 4096 + 25 * METERS;
-
-fn least(a: usize, b: usize) -> usize
-    ensures { λ r. ⌜ r ≡ min a b ⌝ }
-{
-    if a < b { a } else { b }
-}
 
 // ---- the meters
 
@@ -61,7 +55,7 @@ fn write_meters(ms: [Meter; METERS], count: usize, bs: &mut [u8])
     while i < count {
         let m = ms[i];
         let b = meters::meter_bytes(m);
-        numbers::copy(&b, 0, 25, bs, 25 * i);
+        copying::copy(&b, 0, 25, bs, 25 * i);
         i += 1;
     }
 }
@@ -78,7 +72,7 @@ fn read_input(bs: &[u8], n: usize) -> [u8; 260]
     ensures { λ r. ⌜ take n r ≡ block 18 n (now (bs .entry)) ⌝ }
 {
     let mut input = blank_input();
-    numbers::copy(bs, 18, n, &mut input, 0);
+    copying::copy(bs, 18, n, &mut input, 0);
     input
 }
 
@@ -92,7 +86,7 @@ fn read_queue(bs: &[u8], n: usize) -> [u8; 4096]
     ensures { λ r. ⌜ take n r ≡ block 278 n (now (bs .entry)) ⌝ }
 {
     let mut queue = blank_queue();
-    numbers::copy(bs, 278, n, &mut queue, 0);
+    copying::copy(bs, 278, n, &mut queue, 0);
     queue
 }
 
@@ -101,17 +95,17 @@ pub fn read_image(image: &[u8; IMAGE]) -> Segment
     ensures { λ r. ⌜ plainOf r ≡ imaged (now (image .entry)) ⌝ }
 {
     let bs = &image[..];
-    let count = least(numbers::two(bs, 12) as usize, METERS);
-    let waiting = least(numbers::two(bs, 14) as usize, 260);
-    let queued = least(numbers::two(bs, 16) as usize, 4096);
+    let count = least(two(bs[12], bs[13]) as usize, METERS);
+    let waiting = least(two(bs[14], bs[15]) as usize, 260);
+    let queued = least(two(bs[16], bs[17]) as usize, 4096);
     let input = read_input(bs, waiting);
     let queue = read_queue(bs, queued);
     let meters = read_meters(&bs[4374..], count);
     Segment {
         meters,
         count,
-        baud: numbers::four(bs, 0),
-        origin: seconds::f64_from_bits(numbers::eight(bs, 4)),
+        baud: four(bs[0], bs[1], bs[2], bs[3]),
+        origin: seconds::f64_from_bits(copying::origin_bits(bs)),
         input,
         waiting,
         queue,
@@ -124,11 +118,11 @@ fn head_bytes(baud: u32, origin: f64, count: usize, waiting: usize, queued: usiz
     requires { ⌜ (count < 65536) × (waiting < 65536) × (queued < 65536) ⌝ }
     ensures { λ r. ⌜ Head baud origin count waiting queued r ⌝ }
 {
-    let b = numbers::four_bytes(baud);
-    let o = numbers::eight_bytes(seconds::f64_bits(origin));
-    let c = numbers::two_bytes(count as u16);
-    let w = numbers::two_bytes(waiting as u16);
-    let q = numbers::two_bytes(queued as u16);
+    let b = values::le4(baud as u64);
+    let o = copying::eight_bytes(seconds::f64_bits(origin));
+    let c = values::le2(count as u64);
+    let w = values::le2(waiting as u64);
+    let q = values::le2(queued as u64);
     [
         b[0],
         b[1],
@@ -163,9 +157,9 @@ fn write_parts(s: Segment, bs: &mut [u8])
     let input = s.input;
     let queue = s.queue;
     let meters = s.meters;
-    numbers::copy(&head, 0, 18, bs, 0);
-    numbers::copy(&input, 0, waiting, bs, 18);
-    numbers::copy(&queue, 0, queued, bs, 278);
+    copying::copy(&head, 0, 18, bs, 0);
+    copying::copy(&input, 0, waiting, bs, 18);
+    copying::copy(&queue, 0, queued, bs, 278);
     write_meters(meters, count, &mut bs[4374..]);
 }
 

@@ -16,16 +16,17 @@ use Rattle.rules.specs.Tables.{isRate}
 use Rattle.meter_list.specs.Layout.{Listed, Layout, fits, noFit, readRecords}
 use Rattle.rules.specs.Check.{allPass}
 use Rattle.scenarios.specs.Opening.{capacity, Opened, opens, refuses, refusesRecord, OpeningGives, openRecords, openList}
-use Rattle.scenarios.specs.Given.{refusalNumber}
-use Rattle.scenarios.specs.declared.Refusal.{Refusal}
-use Rattle.scenarios.specs.declared.Refusal.the-variants.{Accepted, Version, Length, Capacity, AtRecord, Baud}
+use Rattle.refusals.specs.Refusals.{refusalNumber}
+use Rattle.refusals.specs.declared.Refusal.{Refusal}
+use Rattle.refusals.specs.declared.Refusal.the-variants.{Accepted, Version, Length, Capacity, AtRecord, Baud}
 use Rattle.rules.specs.Checked.{failNumber}
 use Rattle.rules.specs.declared.Failing.{Failing}
 use Rattle.rules.specs.declared.Failing.the-variants.{BadPrimary, BadId, BadManufacturer, BadMedium, BadBaud, BadFault}
-use Rattle.bus.specs.Plain.{Plain}
-use Rattle.bus.specs.Steps.{withInput, settled}
+use Rattle.bus.specs.Plain.{Plain, withInput}
 use Rattle.bus.specs.Calls as calls
 use Rattle.bus.specs.Calls.{Done, afterOpening}
+use Rattle.send.specs.Steps.{settled}
+use Rattle.send.specs.Send.{send}
 use Rattle.clock.specs.Fields.{goodClock}
 use Rattle.image.specs.Image.{imaged}
 use Rattle.jezynar.specs.Answers.{doneBy, receivedBy, Answers}
@@ -35,8 +36,8 @@ use Rattle.jezynar.specs.Answers.{doneBy, receivedBy, Answers}
 abbrev Stays : Plain → Done → Type 0
 Stays s d = 0 < d .number → d .segment ≡ s
 
-pub send-stays : (piece : List ℕ) (k : Clock) (s : Plain) → Stays s (calls.send piece k s)
-unfolding calls.send
+pub send-stays : (piece : List ℕ) (k : Clock) (s : Plain) → Stays s (send piece k s)
+unfolding send
 send-stays piece k s =
     if-all (Stays s) (ltb 1024 (length piece)) _ _ (λ h. refl)
     (if-all (Stays s) (not (goodClock k)) _ _ (λ h. refl)

@@ -1,3 +1,1 @@
 pub mod ImageLaws
-pub mod SearchLaws
-pub mod TelegramLaws

@@ -1,26 +1,24 @@
 // The entry points of the static library. The segment is an image that the caller keeps between the calls.
 ghost use mathlib.Core.Path.{_≡_};
 ghost use Prim.Native.Nat.{_+_, _*_, _<_};
-ghost use Rattle.frame.specs.Frame.{write};
-ghost use Rattle.scenarios.specs.Given.{refusalNumber, refusalIndex};
+ghost use Rattle.frame.specs.Frame;
+ghost use Rattle.telegram_writer.specs.Writer.{write};
+ghost use Rattle.refusals.specs.Refusals.{refusalNumber, refusalIndex};
 ghost use Rattle.bus.specs.Plain.{blank};
 ghost use Rattle.bus.specs.Calls;
-ghost use Rattle.bus.specs.View.{sendingNumber, changingNumber};
-ghost use Rattle.search.specs.View;
+ghost use Rattle.bus.specs.View.{changingNumber};
+ghost use Rattle.send.specs.Send;
+ghost use Rattle.send.specs.View.{sendingNumber};
 ghost use Rattle.image.specs.Image.{imaged, imageLen};
 ghost use Rattle.jezynar.specs.Answers.{Answers, Opens, receivedBy};
-ghost use Rattle.jezynar.specs.Searches.{searchBy, Searches};
-ghost use Rattle.jezynar.specs.Telegrams.{Parses, telegramBy, Writes};
+ghost use Rattle.search_call.specs.Searches.{searchBy, Searches};
+ghost use Rattle.telegram_calls.specs.Telegrams.{Parses, telegramBy, Writes};
 use bus::Changing;
 use bus::Segment;
-use bus::Sending;
 use clock::Clock;
-use frame::Outcome;
 use image::IMAGE;
-use scenarios::Refusal;
-
-mod entries; // entries.rt: the entries of a search and its summary, as bytes
-mod telegrams; // telegrams.rt: telegrams as numbers and bytes
+use refusals::Refusal;
+use send::Sending;
 
 const LEN: usize = IMAGE;
 
@@ -82,8 +80,8 @@ fn packed(refusal: Refusal) -> u32
     requires { ⌜ refusalIndex refusal < 64 ⌝ }
     ensures { λ r. ⌜ r ≡ refusalNumber refusal + 256 * refusalIndex refusal ⌝ }
 {
-    let index = scenarios::opening::refusal_index(refusal);
-    let number = scenarios::opening::refusal_number(refusal);
+    let index = refusals::refusal_index(refusal);
+    let number = refusals::refusal_number(refusal);
     number as u32 + 256 * (index as u32)
 }
 
@@ -133,7 +131,7 @@ pub extern "C" fn segment_send(
     hour: u32,
     minute: u32,
 ) -> u32
-    ensures { λ r. ⌜ Answers (Calls.send (now (piece .entry)) (record { now = secs; year = year; month = month; day = day; hour = hour; minute = minute }) (imaged (now (image .entry)))) r (now (image .entry)) (now (image .exit)) ⌝ }
+    ensures { λ r. ⌜ Answers (Send.send (now (piece .entry)) (record { now = secs; year = year; month = month; day = day; hour = hour; minute = minute }) (imaged (now (image .entry)))) r (now (image .entry)) (now (image .exit)) ⌝ }
 {
     let s = image::read_image(image);
     let clock = Clock {
@@ -144,7 +142,7 @@ pub extern "C" fn segment_send(
         hour: hour,
         minute: minute,
     };
-    let done = bus::send(s, piece, clock);
+    let done = send::send(s, piece, clock);
     let answer = done.answer;
     let number = sending_number(answer);
     if number != 0 {
@@ -169,17 +167,6 @@ pub extern "C" fn segment_receive(image: &mut [u8; IMAGE], lent: &mut [u8]) -> u
 
 // ---- the search
 
-fn outcome_number(outcome: search::Outcome) -> u32
-    ensures { λ r. ⌜ r ≡ View.numberOf outcome ⌝ }
-{
-    match outcome {
-        search::Outcome::Made => 0,
-        search::Outcome::ClockOutOfRange => 14,
-        search::Outcome::NotEmpty => 16,
-        search::Outcome::TooFewLent => 17,
-    }
-}
-
 // Searches with an allowance of probes; 16 lent bytes for each entry.
 // 14: a clock field out of range; 16: input or queue not empty; 17: fewer entries lent than meters opened.
 #[no_mangle]
@@ -197,29 +184,18 @@ pub extern "C" fn segment_search(
 ) -> u32
     ensures { λ r. ⌜ Searches (searchBy (record { now = secs; year = year; month = month; day = day; hour = hour; minute = minute }) allowance (now (entries .entry)) (imaged (now (image .entry)))) r (now (image .entry)) (now (image .exit)) (now (entries .entry)) (now (entries .exit)) (now (summary .entry)) (now (summary .exit)) ⌝ }
 {
-    let s = image::read_image(image);
-    let clock = Clock {
-        now: secs,
-        year: year,
-        month: month,
-        day: day,
-        hour: hour,
-        minute: minute,
-    };
-    let room = entries.len() / 16;
-    let core = search::search_core(s, clock, allowance, room);
-    let outcome = core.outcome;
-    let number = outcome_number(outcome);
-    if number != 0 {
-        return number;
-    }
-    let found = core.entries;
-    let count = core.count;
-    entries::put_entries(found, count, entries);
-    *summary = entries::summary_of(count, core.probes, core.spent);
-    let t = core.segment;
-    image::write_image(t, image);
-    0
+    search_call::search_image(
+        image,
+        secs,
+        year,
+        month,
+        day,
+        hour,
+        minute,
+        allowance,
+        entries,
+        summary,
+    )
 }
 
 // ---- telegrams
@@ -229,15 +205,7 @@ pub extern "C" fn segment_search(
 pub extern "C" fn frame_parse(bytes: &[u8], out: &mut [u8; 16]) -> u32
     ensures { λ r. ⌜ Parses (Rattle.frame.specs.Frame.parse (now (bytes .entry))) r (now (out .entry)) (now (out .exit)) ⌝ }
 {
-    match frame::parse(bytes) {
-        Outcome::Complete { frame, len, used } => {
-            let count = telegrams::data_count(frame, frame::data_of(bytes, len));
-            *out = telegrams::description(telegrams::head_of(frame), count, used);
-            0
-        }
-        Outcome::Incomplete => 1,
-        Outcome::Invalid(why) => telegrams::why_number(why),
-    }
+    telegram_calls::parse(bytes, out)
 }
 
 // Writes a telegram. 11: data over 252; 12: lent bytes too few.
@@ -252,6 +220,5 @@ pub extern "C" fn frame_encode(
 ) -> u32
     ensures { λ r. ⌜ Writes (write (telegramBy kind control address ci (now («data» .entry))) (now (lent .entry))) r (now (lent .exit)) ⌝ }
 {
-    let f = telegrams::frame_by(kind, control, address, ci);
-    telegrams::packed_written(frame::encode(f, data, lent))
+    telegram_calls::encode(kind, control, address, ci, data, lent)
 }

@@ -22,7 +22,7 @@ use Rattle.search.specs.declared.EntryRecord.{EntryRecord}
 use Rattle.search.specs.declared.Core.{Core}
 use Rattle.search.specs.View.{coreGives, Finds}
 use Rattle.search.specs.SearchCall.{Searched, searchCall}
-use Rattle.listing_text.specs.Text.{reportOf, refusalOf, Prints}
+use Rattle.report_text.specs.Text.{reportOf, refusalOf, Prints}
 use Rattle.listing_text.specs.Listing.{listingClock, lentRecords, listIn, listedSegment, listedSearch, listingText, Lists}
 
 pub lent-count : length lentRecords ≡ capacity

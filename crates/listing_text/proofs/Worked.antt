@@ -4,23 +4,31 @@ use mathlib.Core.List.{List, [], _∷_}
 use Prim.Native.Nat.{ℕ}
 use lib.Ieee.{round, sub}
 use Rattle.frame.specs.Frame.{sum, encode, parseShort, parseBody, parseLong, parse}
-use Rattle.values.specs.Values.{little, bcd, typeG, typeF, makerCode, idBytes, nibbles, decimal}
+use Rattle.values.specs.Values.{little, bcd}
+use Rattle.identity.specs.Identity.{makerCode, idBytes, nibbles, decimal}
+use Rattle.dates.specs.Dates.{typeG, typeF}
 use Rattle.seconds.specs.Seconds.{whole, notBelow0, elapsedOf}
-use Rattle.meter.specs.Meter.{hears, put, alike, matches, asked}
-use Rattle.readout.specs.Response.{fixedData, head, clockF, heatFirst, heatSecond, electricity, water, userData, response, damaged, readout}
+use Rattle.meter.specs.Meter.{hears, put}
+use Rattle.asking.specs.Asking.{asked}
+use Rattle.matching.specs.Matching.{alike, matches}
+use Rattle.readout.specs.Response.{userData, response, damaged, readout}
+use Rattle.userdata.specs.UserData.{fixedData, head, clockF, heatFirst, heatSecond, electricity, water}
 use Rattle.hear.specs.Hear.{target, nke, request, select, commanded, listens, hear}
 use Rattle.meter.specs.Meter.{rates}
 use Rattle.rules.specs.Tables.{media, faults}
 use Rattle.meter_list.specs.Layout.{readTexts, readRecords}
 use Rattle.rules.specs.Check.{goodId, goodMaker, check}
-use Rattle.scenarios.specs.Opening.{capacity, ownBaud, seedOf, fresh, openRecords, openList}
-use Rattle.bus.specs.Plain.{blank, joined}
-use Rattle.bus.specs.Steps.{heardBy, handled, steps, settled}
-use Rattle.bus.specs.Calls.{afterOpening, send}
+use Rattle.scenarios.specs.Opening.{capacity, openRecords, openList}
+use Rattle.fresh_meter.specs.Fresh.{ownBaud, seedOf, fresh}
+use Rattle.bus.specs.Plain.{blank}
+use Rattle.bus.specs.Calls.{afterOpening}
+use Rattle.replies.specs.Replies.{joined}
+use Rattle.send.specs.Steps.{heardBy, handled, steps, settled}
+use Rattle.send.specs.Send.{send}
 use Rattle.clock.specs.Fields.{goodClock}
 use Rattle.walk.specs.Walk.{maskDigits, mask, reading, ask, probe, good, idOf, entryOf, read, ten, walk, wholeWalk}
 use Rattle.search.specs.SearchCall.{searchCall}
-use Rattle.listing_text.specs.Text.{inDecimal, number, line, firstLine, reportOf, refusalOf}
+use Rattle.report_text.specs.Text.{inDecimal, number, line, firstLine, reportOf, refusalOf}
 use Rattle.listing_text.specs.Listing.{listedSegment, listingClock, lentRecords, listIn, listedSearch, listingText, ListingGives}
 
 -- to unfold this is to unfold every definition that a listing computes with

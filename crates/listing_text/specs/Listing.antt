@@ -15,7 +15,7 @@ use Rattle.bus.specs.Calls.{afterOpening}
 use Rattle.search.specs.declared.EntryRecord.{EntryRecord}
 use Rattle.search.specs.declared.Kind.the-variants.{One}
 use Rattle.search.specs.SearchCall.{Searched, searchCall}
-use Rattle.listing_text.specs.Text.{reportOf, refusalOf, Prints}
+use Rattle.report_text.specs.Text.{reportOf, refusalOf, Prints}
 
 -- "opens at 2400 without the flag, origin .. 0": the first opening of a segment
 unfoldable pub listedSegment : List ℕ → Plain

@@ -1,10 +1,5 @@
-// The listing program's text.
+// What the listing program writes for what it reads.
 ghost use mathlib.Core.Path.{_≡_};
-ghost use Prim.Native.Nat.{ℕ, _+_, _≤_, _<_, min};
-ghost use lib.ListN.{length, take, drop};
-ghost use Rattle.listing_text.specs.Text;
-ghost use Rattle.listing_text.specs.Text.{number, eightDigits, lines, firstLine, reportOf, refusalOf, room, Wrote, Prints};
-ghost use Rattle.scenarios.specs.Opening.{capacity};
 ghost use Rattle.listing_text.specs.Listing.{listingClock, listIn, Lists};
 ghost use Rattle.bus.specs.Plain.{blank};
 ghost use Rattle.bus.specs.View.{Opens};
@@ -15,178 +10,9 @@ use bus::METERS;
 use bus::Opened;
 use bus::Segment;
 use clock::Clock;
-use search::EntryRecord;
-use search::Kind;
-
-// Line 1 has at most 38 bytes, an entry's line at most 25.
-pub const TEXT: usize = 38 + 25 * METERS;
-
-// Some bytes from a place on; gives the place behind them.
-fn put(out: &mut [u8; TEXT], at: usize, bytes: &[u8]) -> usize
-    requires { ⌜ (at + length (now bytes) ≤ room) × (length (now out) ≡ room) ⌝ }
-    ensures { λ r. ⌜ Wrote (now (out .entry)) at (now (bytes .entry)) r (now (out .exit)) ⌝ }
-{
-    let mut j: usize = 0;
-    while j < bytes.len() {
-        out[at + j] = bytes[j];
-        j += 1;
-    }
-    at + j
-}
-
-// A number's digits and where they begin.
-struct Spelled {
-    digits: [u8; 10],
-    from: usize,
-}
-
-fn spell(n: u32) -> Spelled
-    ensures { λ r. ⌜ (drop (r .from) (r .digits) ≡ number n) × (r .from ≤ 10) × (length (r .digits) ≡ 10) ⌝ }
-{
-    let mut digits = [0u8; 10];
-    let mut i: usize = 10;
-    let mut rest = n;
-    while 10 <= rest {
-        i -= 1;
-        digits[i] = 0x30 + (rest % 10) as u8;
-        rest = rest / 10;
-    }
-    i -= 1;
-    digits[i] = 0x30 + rest as u8;
-    Spelled {
-        digits: digits,
-        from: i,
-    }
-}
-
-fn put_number(out: &mut [u8; TEXT], at: usize, n: u32) -> usize
-    requires { ⌜ (at + 10 ≤ room) × (length (now out) ≡ room) ⌝ }
-    ensures { λ r. ⌜ Wrote (now (out .entry)) at (number n) r (now (out .exit)) × (r ≤ at + 10) ⌝ }
-{
-    let s = spell(n);
-    let digits = s.digits;
-    let from = s.from;
-    let whole = &digits[..];
-    put(out, at, &whole[from..])
-}
-
-fn digit(d: u8) -> u8
-    ensures { λ r. ⌜ r ≡ Text.digit d ⌝ }
-{
-    if d == 15 { b'F' } else { 0x30 + d % 10 }
-}
-
-fn put_digits(out: &mut [u8; TEXT], at: usize, digits: [u8; 8]) -> usize
-    requires { ⌜ (at + 8 ≤ room) × (length (now out) ≡ room) ⌝ }
-    ensures { λ r. ⌜ Wrote (now (out .entry)) at (eightDigits digits) r (now (out .exit)) × (r ≡ at + 8) ⌝ }
-{
-    let mut j: usize = 0;
-    while j < 8 {
-        let d = digit(digits[j]);
-        out[at + j] = d;
-        j += 1;
-    }
-    at + j
-}
-
-fn put_word(out: &mut [u8; TEXT], at: usize, kind: Kind) -> usize
-    requires { ⌜ (at + 5 ≤ room) × (length (now out) ≡ room) ⌝ }
-    ensures { λ r. ⌜ Wrote (now (out .entry)) at (Text.word kind) r (now (out .exit)) × (r ≤ at + 5) ⌝ }
-{
-    match kind {
-        Kind::One => put(out, at, b"one "),
-        Kind::Mute => put(out, at, b"mute "),
-        Kind::Many => put(out, at, b"many "),
-    }
-}
-
-fn put_count(out: &mut [u8; TEXT], at: usize, kind: Kind, count: u32) -> usize
-    requires { ⌜ (at + 11 ≤ room) × (length (now out) ≡ room) ⌝ }
-    ensures { λ r. ⌜ Wrote (now (out .entry)) at (Text.counted kind count) r (now (out .exit)) × (r ≤ at + 11) ⌝ }
-{
-    match kind {
-        Kind::One => at,
-        Kind::Mute => at,
-        Kind::Many => {
-            let a = put(out, at, b" ");
-            put_number(out, a, count)
-        }
-    }
-}
-
-fn put_line(out: &mut [u8; TEXT], at: usize, e: EntryRecord) -> usize
-    requires { ⌜ (at + 25 ≤ room) × (length (now out) ≡ room) ⌝ }
-    ensures { λ r. ⌜ Wrote (now (out .entry)) at (Text.line e) r (now (out .exit)) × (r ≤ at + 25) ⌝ }
-{
-    let kind = e.kind;
-    let digits = e.digits;
-    let a = put_word(out, at, kind);
-    let b = put_digits(out, a, digits);
-    let c = put_count(out, b, kind, e.count);
-    put(out, c, b"\n")
-}
-
-fn put_lines(out: &mut [u8; TEXT], at: usize, entries: [EntryRecord; METERS], count: usize) -> usize
-    requires { ⌜ (at ≤ 38) × (count ≤ capacity) × (length (now out) ≡ room) ⌝ }
-    ensures { λ r. ⌜ Wrote (now (out .entry)) at (lines (take count entries)) r (now (out .exit)) ⌝ }
-{
-    let mut end = at;
-    let mut i: usize = 0;
-    while i < count {
-        let e = entries[i];
-        end = put_line(out, end, e);
-        i += 1;
-    }
-    end
-}
-
-fn put_first(out: &mut [u8; TEXT], entries: u32, probes: u32) -> usize
-    requires { ⌜ length (now out) ≡ room ⌝ }
-    ensures { λ r. ⌜ Wrote (now (out .entry)) 0 (firstLine entries probes) r (now (out .exit)) × (r ≤ 38) ⌝ }
-{
-    let a = put_number(out, 0, entries);
-    let b = put(out, a, b" entries, ");
-    let c = put_number(out, b, probes);
-    put(out, c, b" probes\n")
-}
-
-// The lent bytes with a text at their start, and its length.
-struct Written {
-    bytes: [u8; TEXT],
-    len: usize,
-}
-
-fn least(a: usize, b: usize) -> usize
-    ensures { λ r. ⌜ r ≡ min a b ⌝ }
-{
-    if a < b { a } else { b }
-}
-
-fn report(lent: [u8; TEXT], entries: [EntryRecord; METERS], count: usize, probes: u32) -> Written
-    ensures { λ r. ⌜ Prints lent (reportOf (take count entries) probes) (r .len) (r .bytes) ⌝ }
-{
-    let mut bytes = lent;
-    let n = least(count, METERS);
-    let a = put_first(&mut bytes, n as u32, probes);
-    let len = put_lines(&mut bytes, a, entries, n);
-    Written {
-        bytes: bytes,
-        len: len,
-    }
-}
-
-fn refusal(lent: [u8; TEXT], n: u32) -> Written
-    ensures { λ r. ⌜ Prints lent (refusalOf n) (r .len) (r .bytes) ⌝ }
-{
-    let mut bytes = lent;
-    let a = put(&mut bytes, 0, b"refused ");
-    let b = put_number(&mut bytes, a, n);
-    let len = put(&mut bytes, b, b"\n");
-    Written {
-        bytes: bytes,
-        len: len,
-    }
-}
+use laws::least;
+use report_text::TEXT;
+use report_text::Written;
 
 // Input past so many bytes is not read.
 const INPUT: usize = 65536;
@@ -218,14 +44,14 @@ fn list_into(input: &[u8], lent: [u8; TEXT]) -> Written
 {
     let opened = open_list(input);
     let answer = opened.answer;
-    let n = scenarios::opening::refusal_number(answer);
+    let n = refusals::refusal_number(answer);
     if n != 0 {
-        return refusal(lent, n as u32);
+        return report_text::refusal(lent, n as u32);
     }
     let segment = opened.segment;
     let found = search::search_core(segment, clock(), 10000, METERS);
     let entries = found.entries;
-    report(lent, entries, found.count, found.probes)
+    report_text::report(lent, entries, found.count, found.probes)
 }
 
 // What the listing program writes for what it reads: the text at the start of the lent bytes, and its length.

@@ -3,9 +3,7 @@ ghost use mathlib.Core.Path.{_≡_};
 ghost use lib.ListN.{getD};
 ghost use Rattle.meter.specs.Meter.{rates};
 
-pub mod asking; // asking.rt: a meter that is asked for its readout
 pub mod hearing; // hearing.rt: whether a telegram is heard, and the changes of a meter's parts
-pub mod matching; // matching.rt: a select's mask against a meter
 
 // The rates that a meter can be set to, by number.
 pub const BAUD_RATES: [u32; 8] = [300, 600, 1200, 2400, 4800, 9600, 19200, 38400];

@@ -1,4 +1,2 @@
-pub mod ByteLaws
 pub mod ReadoutLaws
-pub mod RecordLaws
 pub mod ReplyLaws

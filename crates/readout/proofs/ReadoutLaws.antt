@@ -14,7 +14,9 @@ use Rattle.laws.specs.Words.{if_then_else_, at}
 use Rattle.laws.proofs.Lists.{if-all}
 use Rattle.frame.specs.Frame.{Telegram, long, checksum, incomplete, invalid, encode, sum, parse}
 use Rattle.frame.proofs.RoundTrip.{longWith, with-wrong, length-long, parseLong-waits}
-use Rattle.values.specs.Values.{little, bcd, typeG, typeF, idBytes}
+use Rattle.values.specs.Values.{little, bcd}
+use Rattle.identity.specs.Identity.{idBytes}
+use Rattle.dates.specs.Dates.{typeG, typeF}
 use Rattle.seconds.specs.Seconds.{whole, last32}
 use Rattle.meter.specs.PlainMeter.{PlainMeter}
 use Rattle.clock.specs.declared.Clock.{Clock}
@@ -22,7 +24,8 @@ use Rattle.meter.specs.declared.Fault.{Fault}
 use Rattle.meter.specs.declared.Fault.the-variants.{None, Checksum, Truncated, Busy, WrongAddress, Flaky, TooMany}
 use Rattle.meter.specs.declared.Model.{Model}
 use Rattle.meter.specs.declared.Model.the-variants.{Heat, Electricity, Water, Fixed}
-use Rattle.readout.specs.Response.{fixedData, head, clockF, heatFirst, heatSecond, electricity, water, address, userData, error, response, damaged, readout}
+use Rattle.readout.specs.Response.{address, userData, error, response, damaged, readout}
+use Rattle.userdata.specs.UserData.{fixedData, head, clockF, heatFirst, heatSecond, electricity, water}
 
 -- ---- user data: RSP_UD, CI 72 or 73, with the id in front
 

@@ -7,11 +7,12 @@ use borrow.Author.Tests.{le-ltb}
 use lib.Bits.{bitXor}
 use lib.ListN.{length, take, drop, set, getD, length-take}
 use lib.Seq.{take-at, take-all, take-take, take-set-lt, getD-take, length-take-le}
-use Rattle.frame.specs.Frame as definitions
-use Rattle.frame.specs.Frame.{Telegram, long, encode, dataOf, write}
-use Rattle.frame.specs.View.{countOf, writtenOf}
-use Rattle.frame.specs.declared.Written.{Written}
+use Rattle.frame.specs.Frame.{Telegram, long, encode, dataOf}
 use Rattle.frame.proofs.RoundTrip.{length-long}
+use Rattle.telegram_writer.specs.Writer as definitions
+use Rattle.telegram_writer.specs.Writer.{write}
+use Rattle.telegram_writer.specs.View.{countOf, writtenOf}
+use Rattle.telegram_writer.specs.declared.Written.{Written}
 use Rattle.readout.specs.Response.{damaged}
 use Rattle.meter.specs.declared.Fault.the-variants.{Checksum, Truncated}
 

@@ -1,19 +1,11 @@
--- What the functions say that put a reply's data together.
+-- What the functions say that count a reply's bytes.
 use mathlib.Core.Path.{_≡_}
-use mathlib.Core.List.{List, _++_}
 use Prim.Native.Nat.{ℕ, _≤_}
 use lib.ListN.{length, take}
-use Rattle.readout.specs.declared.Data.{Data}
+use Rattle.userdata.specs.declared.Data.{Data}
 use Rattle.readout.specs.declared.Reply.{Reply}
-use Rattle.readout.specs.View.{held, said}
-
--- what there is room for
-unfoldable pub cut : List ℕ → List ℕ
-cut bs = take 87 bs
-
--- r holds what d held, and bs behind it
-pub record Put (d : Data) (bs : List ℕ) (r : Data) : Type 0 where
-  pub bytes : held r ≡ cut (held d ++ bs)
+use Rattle.userdata.specs.View.{held}
+use Rattle.readout.specs.View.{said}
 
 -- n is how many bytes d holds: within its array, and its first n are what it holds
 pub record HeldLen (d : Data) (n : ℕ) : Type 0 where

@@ -2,12 +2,8 @@
 use mathlib.Core.List.{List}
 use Prim.Native.Nat.{ℕ}
 use lib.ListN.{take}
-use Rattle.readout.specs.declared.Data.{Data}
 use Rattle.readout.specs.declared.Reply.{Reply}
 
--- the bytes of data in the making, and those of a reply: the first `len` of the array
-abbrev pub held : Data → List ℕ
-held d = take (d .len) (d .bytes)
-
+-- the bytes of a reply: the first `len` of the array
 abbrev pub said : Reply → List ℕ
 said r = take (r .len) (r .bytes)

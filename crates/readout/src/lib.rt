@@ -6,18 +6,15 @@ ghost use Rattle.frame.specs.Frame.{encode, long};
 ghost use Rattle.readout.specs.Made.{HeldLen, SaidLen};
 ghost use Rattle.readout.specs.Response.{address, error, userData, response, damaged, readout};
 ghost use Rattle.meter.specs.View.{plainMeter};
-ghost use Rattle.readout.specs.View.{held, said};
+ghost use Rattle.readout.specs.View.{said};
+ghost use Rattle.userdata.specs.View.{held};
 use clock::Clock;
 use frame::Frame;
-use frame::Written;
 use meter::Fault;
 use meter::Meter;
 use meter::Model;
-use records::empty;
-use records::push;
-
-mod records; // records.rt: bytes and records put behind data
-mod userdata; // userdata.rt: the data of each model's reply
+use telegram_writer::Written;
+use userdata::Data;
 
 // RSP_UD, and the CI of an error, of variable and of fixed data.
 const C_RSP_UD: u8 = 0x08;
@@ -32,12 +29,6 @@ const CI_FIXED: u8 = 0x73;
 pub struct Reply {
     pub bytes: [u8; 96],
     pub len: usize,
-}
-
-// A reply's data in the making: the first `len` bytes. A telegram has nine more, so each fits a reply.
-struct Data {
-    bytes: [u8; 87],
-    len: usize,
 }
 
 // How many bytes are held, and said.
@@ -73,7 +64,7 @@ fn telegram(address: u8, ci: u8, d: Data) -> Reply
         ci: ci,
     };
     let mut out = no_bytes();
-    let w = frame::encode(f, &data[..n], &mut out);
+    let w = telegram_writer::encode(f, &data[..n], &mut out);
     match w {
         Written::Bytes(len) => Reply {
             bytes: out,
@@ -138,7 +129,7 @@ fn response(m: Meter, elapsed: f64, clock: Clock) -> Reply
     if code == 0 {
         return user_data(m, elapsed, clock);
     }
-    telegram(m.primary, CI_ERROR, push(empty(), code))
+    telegram(m.primary, CI_ERROR, userdata::error_data(code))
 }
 
 // The sum, the last byte but one, flipped.

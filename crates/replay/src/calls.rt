@@ -6,18 +6,18 @@ use crate::script;
 use crate::show;
 use bus::Changing;
 use bus::Segment;
-use bus::Sending;
 use clock::Clock;
-use scenarios::builtins;
+use laws::least;
 use search::Outcome;
+use send::Sending;
 
 // The number and the index of 01.
 fn open(segment: Segment, list: &[u8], baud: u32, practice: bool, origin: f64) -> Segment {
     let opened = bus::open(segment, list, baud, practice, origin);
     let answer = opened.answer;
     print::text(b"open");
-    print::next(print::wide8(scenarios::opening::refusal_number(answer)));
-    print::next(print::wide(scenarios::opening::refusal_index(answer)));
+    print::next(print::wide8(refusals::refusal_number(answer)));
+    print::next(print::wide(refusals::refusal_index(answer)));
     print::line();
     opened.segment
 }
@@ -69,7 +69,7 @@ fn sending_number(answer: Sending) -> u64 {
 
 // A piece behind its length.
 pub(crate) fn send(segment: Segment, clock: Clock, arguments: &[u8]) -> Segment {
-    let sent = bus::send(segment, script::rest(arguments, 2), clock);
+    let sent = send::send(segment, script::rest(arguments, 2), clock);
     let answer = sent.answer;
     print::text(b"send");
     print::next(sending_number(answer));
@@ -97,7 +97,7 @@ fn receive_into(segment: Segment, lent: &mut [u8]) -> Segment {
 // How many bytes are lent, at most 64.
 pub(crate) fn receive(segment: Segment, arguments: &[u8]) -> Segment {
     let mut bytes = no_bytes();
-    let n = script::least(script::index(arguments), 64);
+    let n = least(script::index(arguments), 64);
     receive_into(segment, &mut bytes[0..n])
 }
 

@@ -1,6 +1,7 @@
 // The commands' bytes. Past the end of a command there are zeros.
 ghost use Prim.Native.Nat.{_≤_, _<_};
 ghost use lib.ListN.{length};
+use laws::least;
 
 pub const OPEN: u8 = 1;
 
@@ -21,12 +22,6 @@ pub const SHORT: u8 = 8;
 pub const SEARCH: u8 = 9;
 
 pub const BUILTIN: u8 = 10;
-
-pub(crate) fn least(a: usize, b: usize) -> usize
-    ensures { λ r. ⌜ (r ≤ a) × (r ≤ b) ⌝ }
-{
-    if a < b { a } else { b }
-}
 
 // The first n bytes, or all.
 pub(crate) fn first(s: &[u8], n: usize) -> &[u8] {

@@ -3,6 +3,7 @@ ghost use Prim.Native.Nat.{_≤_};
 use crate::print;
 use crate::script;
 use bus::Segment;
+use laws::least;
 use meter::Fault;
 use meter::LastFcb;
 use meter::Meter;
@@ -75,7 +76,7 @@ fn meter(m: Meter) {
 
 // A line for each meter.
 fn meters(segment: Segment) {
-    let end = script::least(segment.count, bus::METERS);
+    let end = least(segment.count, bus::METERS);
     let mut i: usize = 0;
     while i < end {
         let m = segment.meters[i];
@@ -109,7 +110,7 @@ fn one_if(b: bool) -> usize
 
 // How many meters are at the bus's rate.
 fn listening(segment: Segment) -> usize {
-    let end = script::least(segment.count, bus::METERS);
+    let end = least(segment.count, bus::METERS);
     let mut n: usize = 0;
     let mut i: usize = 0;
     while i < end {
@@ -153,7 +154,7 @@ fn entry(e: EntryRecord) {
 
 // A line for each entry.
 pub(crate) fn entries(core: Core) {
-    let end = script::least(core.count, bus::METERS);
+    let end = least(core.count, bus::METERS);
     let mut i: usize = 0;
     while i < end {
         let e = core.entries[i];

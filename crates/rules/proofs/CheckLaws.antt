@@ -14,7 +14,7 @@ use Rattle.laws.specs.Sweep.{fold}
 use Rattle.laws.proofs.Lists.{and-l, and-r}
 use Rattle.laws.proofs.Sweep.{Folded, folded-none, folded-more, folded-whole}
 use Rattle.meter.specs.Meter.{rates}
-use Rattle.values.specs.Values.{decimal}
+use Rattle.identity.specs.Identity.{decimal}
 use Rattle.rules.specs.Tables.{sameText, isRate, medium-heat-old}
 use Rattle.rules.specs.Check.{within, textDigits, goodId, goodMaker}
 use Rattle.rules.specs.Checked.{inBase}

@@ -10,7 +10,7 @@ use Rattle.laws.specs.Words.{if_then_else_}
 use Rattle.meter.specs.Meter.{rates}
 use Rattle.meter.specs.declared.Fault.{Fault}
 use Rattle.meter.specs.declared.Model.{Model}
-use Rattle.values.specs.Values.{makerCode, decimal}
+use Rattle.identity.specs.Identity.{makerCode, decimal}
 use Rattle.rules.specs.Tables.{Medium, media, faults, isMedium, isFault, isRate, mediumOf, faultOf, medium-water, fault-none}
 use Rattle.rules.specs.Keys.{place, mediaKeys, faultKeys}
 use Rattle.meter_list.specs.Layout.{Listed}

@@ -5,7 +5,7 @@ use Prim.Native.Nat.{ℕ, _+_, _*_}
 use lib.Dec.{eqb}
 use Rattle.laws.specs.Words.{if_then_else_}
 use Rattle.laws.specs.Sweep.{fold}
-use Rattle.values.specs.Values.{makerCode, decimal}
+use Rattle.identity.specs.Identity.{makerCode, decimal}
 use Rattle.rules.specs.Tables.{media, faults, mediumOf, faultOf}
 use Rattle.meter_list.specs.Layout.{Listed}
 use Rattle.rules.specs.Check.{textDigits, check}

@@ -20,8 +20,8 @@ use super::tables::medium_model;
 use super::texts::all_within;
 use super::texts::same_text;
 use super::texts::text;
+use identity::manufacturer_code;
 use meter_list::Listed;
-use values::manufacturer_code;
 
 // Eight digits.
 fn good_id(t: &[u8]) -> bool

@@ -1,19 +1,10 @@
 // Texts as slices of the list, compared and read.
 ghost use mathlib.Core.Path.{_≡_};
-ghost use Prim.Native.Nat.{min};
 ghost use Rattle.rules.specs.Tables.{sameText};
 ghost use Rattle.rules.specs.Check.{within};
 ghost use Rattle.meter_list.specs.Reading.{textOf};
+use laws::least;
 use meter_list::Text;
-
-fn least(a: usize, b: usize) -> usize
-    ensures { λ r. ⌜ r ≡ min a b ⌝ }
-{
-    if a < b {
-        return a;
-    }
-    b
-}
 
 // The bytes of a text. Of one that lies past the list's end, those that the list has.
 pub(crate) fn text<'a>(list: &'a [u8], t: Text) -> &'a [u8]

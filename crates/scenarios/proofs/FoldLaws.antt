@@ -13,7 +13,7 @@ use Rattle.rules.specs.Checked.{checkedOf}
 use Rattle.scenarios.specs.Gather.{noMeters, joined, admitted, standsAt, gathered, gatheredOf}
 use Rattle.meter_list.specs.declared.Step.{Step}
 use Rattle.meter_list.specs.declared.Step.the-variants.{Record, Bad, End}
-use Rattle.scenarios.specs.declared.Refusal.the-variants.{Accepted}
+use Rattle.refusals.specs.declared.Refusal.the-variants.{Accepted}
 use Rattle.scenarios.specs.declared.Meters.{Meters}
 use Rattle.meter_list.proofs.ReadLaws.{more, afterStep}
 use Rattle.meter_list.proofs.CountLaws.{readFrom, from-step}

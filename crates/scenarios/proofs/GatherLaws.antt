@@ -10,7 +10,9 @@ use Rattle.laws.specs.Words.{if_then_else_}
 use Rattle.meter.specs.declared.Meter.{Meter}
 use Rattle.meter_list.specs.Reading.{listedOf, stepAt, atOf}
 use Rattle.rules.specs.Checked.{checkedOf}
-use Rattle.scenarios.specs.Gather.{freshOf, spare, noMeters, isAccepted, put, joined, admitted, standsAt, gathered, gatheredOf}
+use Rattle.scenarios.specs.Gather.{spare, noMeters, put, joined, admitted, standsAt, gathered, gatheredOf}
+use Rattle.refusals.specs.Refusals.{isAccepted}
+use Rattle.fresh_meter.specs.FreshOf.{freshOf}
 use Rattle.meter_list.specs.declared.Listed.{Listed as Placed}
 use Rattle.rules.specs.declared.Values.{Values}
 use Rattle.rules.specs.declared.Failing.{Failing}
@@ -18,8 +20,8 @@ use Rattle.rules.specs.declared.Checked.{Checked}
 use Rattle.rules.specs.declared.Checked.the-variants.{Passes, Fails}
 use Rattle.meter_list.specs.declared.Step.{Step}
 use Rattle.meter_list.specs.declared.Step.the-variants.{Record, Bad, End}
-use Rattle.scenarios.specs.declared.Refusal.{Refusal}
-use Rattle.scenarios.specs.declared.Refusal.the-variants.{Accepted, AtRecord}
+use Rattle.refusals.specs.declared.Refusal.{Refusal}
+use Rattle.refusals.specs.declared.Refusal.the-variants.{Accepted, AtRecord}
 use Rattle.scenarios.specs.declared.Meters.{Meters}
 
 pub none-is : (r : Refusal) {m : Meter} → m ≡ spare → _≡_ {A = Meters} (record { refusal = r; meters = replicate 64 m; count = 0 }) (noMeters r)

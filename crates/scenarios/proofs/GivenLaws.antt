@@ -15,14 +15,17 @@ use Rattle.meter.specs.View.{plainMeter}
 use Rattle.rules.specs.Tables.{isRate}
 use Rattle.meter_list.specs.Layout.{Listed, Layout, fits, noFit, readRecords}
 use Rattle.rules.specs.Check.{allPass}
-use Rattle.scenarios.specs.Opening.{capacity, fresh, Opened, opens, refuses, refusesRecord, metersIn, OpeningGives, openRecords, openList}
+use Rattle.scenarios.specs.Opening.{capacity, Opened, opens, refuses, refusesRecord, metersIn, OpeningGives, openRecords, openList}
+use Rattle.fresh_meter.specs.Fresh.{fresh}
 use Rattle.meter_list.specs.Reading.{countOf, shapeOf}
-use Rattle.scenarios.specs.Gather.{spare, noMeters, isAccepted, gatheredOf}
-use Rattle.scenarios.specs.Given.{refusalNumber, refusalIndex, MetersGiven}
+use Rattle.scenarios.specs.Gather.{spare, noMeters, gatheredOf}
+use Rattle.refusals.specs.Refusals.{isAccepted}
+use Rattle.scenarios.specs.Given.{MetersGiven}
+use Rattle.refusals.specs.Refusals.{refusalNumber, refusalIndex}
 use Rattle.meter_list.specs.declared.Shape.{Shape}
 use Rattle.meter_list.specs.declared.Shape.the-variants.{Fits, Unversioned, Unfit}
-use Rattle.scenarios.specs.declared.Refusal.{Refusal}
-use Rattle.scenarios.specs.declared.Refusal.the-variants.{Accepted, Capacity, Baud}
+use Rattle.refusals.specs.declared.Refusal.{Refusal}
+use Rattle.refusals.specs.declared.Refusal.the-variants.{Accepted, Capacity, Baud}
 use Rattle.scenarios.specs.declared.Meters.{Meters}
 use Rattle.meter_list.proofs.CountLaws.{readFrom}
 use Rattle.scenarios.proofs.FoldLaws.{takeIn, gathered-all}

@@ -1,5 +1,4 @@
 pub mod FoldLaws
-pub mod FreshLaws
 pub mod GatherLaws
 pub mod GivenLaws
 pub mod Opened

@@ -5,12 +5,13 @@ use mathlib.Core.List.{[], _∷_}
 use Prim.Native.Nat.{ℕ}
 use lib.ListN.{length}
 use Rattle.meter.specs.Meter.{rates}
-use Rattle.values.specs.Values.{decimal}
+use Rattle.identity.specs.Identity.{decimal}
 use Rattle.rules.specs.Tables.{media, faults}
-use Rattle.scenarios.specs.Builtins.{praxis, ok10, mfh30, bauds}
+use Rattle.builtins.specs.Builtins.{praxis, ok10, mfh30, bauds}
 use Rattle.meter_list.specs.Layout.{readTexts, readRecords}
 use Rattle.rules.specs.Check.{goodId, goodMaker, check}
-use Rattle.scenarios.specs.Opening.{capacity, seedOf, Opened, opens, metersIn, openRecords, openList}
+use Rattle.scenarios.specs.Opening.{capacity, Opened, opens, metersIn, openRecords, openList}
+use Rattle.fresh_meter.specs.Fresh.{seedOf}
 
 -- the list opens, with n meters
 pub record OpensWith (n : ℕ) (o : Opened) : Type 0 where

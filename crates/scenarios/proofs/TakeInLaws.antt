@@ -17,16 +17,18 @@ use Rattle.meter.specs.PlainMeter.{PlainMeter}
 use Rattle.meter.specs.View.{plainMeter}
 use Rattle.meter_list.specs.Layout.{Listed}
 use Rattle.rules.specs.Check.{check, allPass}
-use Rattle.scenarios.specs.Opening.{fresh}
+use Rattle.fresh_meter.specs.Fresh.{fresh}
 use Rattle.rules.specs.Checked.{valuesOf, failingOf, checkedOf}
-use Rattle.scenarios.specs.Gather.{freshOf, noMeters, isAccepted, put, joined}
-use Rattle.scenarios.specs.Given.{refusalNumber, refusalIndex}
+use Rattle.scenarios.specs.Gather.{noMeters, put, joined}
+use Rattle.refusals.specs.Refusals.{isAccepted}
+use Rattle.fresh_meter.specs.FreshOf.{freshOf}
+use Rattle.refusals.specs.Refusals.{refusalNumber, refusalIndex}
 use Rattle.rules.specs.declared.Checked.{Checked}
 use Rattle.rules.specs.declared.Checked.the-variants.{Passes, Fails}
-use Rattle.scenarios.specs.declared.Refusal.{Refusal}
-use Rattle.scenarios.specs.declared.Refusal.the-variants.{Accepted, AtRecord}
+use Rattle.refusals.specs.declared.Refusal.{Refusal}
+use Rattle.refusals.specs.declared.Refusal.the-variants.{Accepted, AtRecord}
 use Rattle.scenarios.specs.declared.Meters.{Meters}
-use Rattle.scenarios.proofs.FreshLaws.{fresh-plain}
+use Rattle.fresh_meter.proofs.FreshLaws.{fresh-plain}
 use Rattle.scenarios.proofs.FoldLaws.{takeIn}
 use Rattle.scenarios.proofs.GatherLaws.{join-kept}
 use Rattle.rules.proofs.VerdictLaws.{check-number}

@@ -1,7 +1,7 @@
 -- What the program makes of the list's records, one after another: its meters, or the first record that fails.
 use mathlib.Core.Bool.{Bool, true, false}
 use mathlib.Core.List.{List}
-use Prim.Native.Nat.{ℕ, zero, suc, _+_, _*_, _%_}
+use Prim.Native.Nat.{ℕ, zero, suc, _+_}
 use lib.Dec.{ltb}
 use lib.ListN.{set, replicate}
 use Rattle.laws.specs.Words.{if_then_else_}
@@ -11,40 +11,15 @@ use Rattle.meter.specs.declared.LastFcb.the-variants.{Never}
 use Rattle.meter.specs.declared.Meter.{Meter}
 use Rattle.meter_list.specs.Reading.{listedOf, stepAt, atOf}
 use Rattle.rules.specs.Checked.{checkedOf}
-use Rattle.scenarios.specs.Opening.{ownBaud}
-use Rattle.rules.specs.declared.Values.{Values}
+use Rattle.fresh_meter.specs.FreshOf.{freshOf}
 use Rattle.rules.specs.declared.Checked.{Checked}
 use Rattle.rules.specs.declared.Checked.the-variants.{Passes, Fails}
 use Rattle.meter_list.specs.declared.Step.{Step}
 use Rattle.meter_list.specs.declared.Step.the-variants.{Record, Bad, End}
-use Rattle.scenarios.specs.declared.Refusal.{Refusal}
-use Rattle.scenarios.specs.declared.Refusal.the-variants.{Accepted, Version, Length, Capacity, AtRecord, Baud}
+use Rattle.refusals.specs.declared.Refusal.{Refusal}
+use Rattle.refusals.specs.declared.Refusal.the-variants.{Accepted, AtRecord}
+use Rattle.refusals.specs.Refusals.{isAccepted}
 use Rattle.scenarios.specs.declared.Meters.{Meters}
-
--- the seed of an id's decimal number
-abbrev pub seedFrom : Bool → ℕ → ℕ
-seedFrom practice n = if practice then 0 else n % 997 * 53
-
--- the program's fresh meter
-unfoldable pub freshOf : ℕ → Bool → Values → Meter
-freshOf bus practice v =
-    record {
-      primary = v .primary;
-      id = v .id;
-      manufacturer = v .manufacturer;
-      version = v .version;
-      medium = v .medium;
-      model = v .model;
-      fault = v .fault;
-      access = 0;
-      baud = ownBaud bus practice (v .baud);
-      selected = false;
-      part = 0;
-      last = Never;
-      readouts = 0;
-      seed = seedFrom practice (v .number);
-      hearing = false;
-    }
 
 -- what stands in the places that hold no meter
 unfoldable pub spare : Meter
@@ -70,14 +45,6 @@ spare =
 -- no meters
 unfoldable pub noMeters : Refusal → Meters
 noMeters r = record { refusal = r; meters = replicate 64 spare; count = 0 }
-
-abbrev pub isAccepted : Refusal → Bool
-isAccepted Accepted = true
-isAccepted Version = false
-isAccepted Length = false
-isAccepted Capacity = false
-isAccepted (AtRecord f i) = false
-isAccepted Baud = false
 
 -- one meter more, while there is room
 unfoldable pub put : Meters → Meter → Meters

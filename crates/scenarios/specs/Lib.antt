@@ -1,4 +1,3 @@
-pub mod Builtins
 pub mod Gather
 pub mod Given
 pub mod Opening

@@ -1,54 +1,21 @@
 -- A list of meters, opened: "Opening takes list, bus baud, a practice flag and the origin".
 use mathlib.Core.Path.{_≡_}
-use mathlib.Core.Bool.{Bool, false, _&&_, _||_, not}
+use mathlib.Core.Bool.{Bool, _||_, not}
 use mathlib.Core.List.{List, [], _∷_, _++_, map}
-use Prim.Native.Nat.{ℕ, _+_, _-_, _*_, _%_, _<_}
+use Prim.Native.Nat.{ℕ, _+_, _-_, _*_, _<_}
 use lib.Dec.{eqb, ltb}
 use lib.ListN.{length, drop}
 use Rattle.laws.specs.Words.{if_then_else_, at}
-use Rattle.values.specs.Values.{makerCode, decimal}
 use Rattle.meter.specs.PlainMeter.{PlainMeter}
-use Rattle.meter.specs.declared.LastFcb.the-variants.{Never}
 use Rattle.meter.specs.Meter.{rates}
-use Rattle.rules.specs.Tables.{media, faults, mediumOf, faultOf, isRate}
+use Rattle.rules.specs.Tables.{isRate}
 use Rattle.meter_list.specs.Layout.{Listed, Layout, fits, noFit, readRecords}
-use Rattle.rules.specs.Check.{textDigits, check, allPass}
+use Rattle.rules.specs.Check.{check, allPass}
+use Rattle.fresh_meter.specs.Fresh.{fresh}
 
 -- "At most 64 meters."
 unfoldable pub capacity : ℕ
 capacity = 64
-
--- own baud: "0 = the bus's at opening"; "with it, .. an own baud equal to the bus baud becomes 2400"
-unfoldable pub ownBaud : ℕ → Bool → ℕ → ℕ
-ownBaud bus practice own =
-    if eqb own 0 then bus else
-    if practice && eqb own bus then 2400 else
-    own
-
--- "Without the flag, seed = (id as a decimal number mod 997) × 53; with it, seed 0"
-unfoldable pub seedOf : Bool → List ℕ → ℕ
-seedOf practice digits = if practice then 0 else decimal digits % 997 * 53
-
--- "A fresh meter: access 0, not selected, part 0, no last FCB, readouts 0, and a flaky one misses its first telegram."
-unfoldable pub fresh : ℕ → Bool → Listed → PlainMeter
-fresh bus practice r =
-    record {
-      primary = r .primary;
-      digits = textDigits (r .id);
-      manufacturer = makerCode (r .manufacturer);
-      version = r .version;
-      medium = mediumOf media (r .medium) .code;
-      model = mediumOf media (r .medium) .model;
-      fault = faultOf faults (r .fault);
-      access = 0;
-      baud = ownBaud bus practice (r .baud);
-      selected = false;
-      part = 0;
-      last = Never;
-      readouts = 0;
-      seed = seedOf practice (textDigits (r .id));
-      hearsNext = false;
-    }
 
 -- what opening a list at a baud comes to: the meters; a refusal by number; or a refusal by one of the records
 pub data Opened : Type 0 where

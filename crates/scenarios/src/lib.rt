@@ -1,6 +1,5 @@
-// The meters that an opening of a meter list begins with, and the built-in lists.
-pub mod builtins; // builtins.rt: the built-in lists
-pub mod opening; // opening.rt: fresh meters, gathered one after another
+// The meters that an opening of a meter list begins with.
+pub mod opening; // opening.rt: fresh meters gathered one after another
 
 use meter::Meter;
 use meter_list::Shape;
@@ -9,9 +8,9 @@ use meter_list::new;
 use meter_list::next;
 use opening::admit;
 use opening::begin;
-use opening::is_accepted;
 use opening::no_meters;
-use rules::Failing;
+use refusals::Refusal;
+use refusals::is_accepted;
 use rules::tables::is_rate;
 ghost use mathlib.Core.Path.{_≡_};
 ghost use Rattle.scenarios.specs.Gather.{gatheredOf};
@@ -19,16 +18,6 @@ ghost use Rattle.scenarios.specs.Given.{MetersGiven};
 
 // At most so many meters.
 pub const METERS: usize = 64;
-
-// Accepted, or what an opening is refused with: 1, 2, 3, 4 to 9 with the record's index, 10.
-pub enum Refusal {
-    Accepted,
-    Version,
-    Length,
-    Capacity,
-    AtRecord(Failing, usize),
-    Baud,
-}
 
 // What an opening gives: the first `count` of `meters`. A refused one has none.
 pub struct Meters {

@@ -13,7 +13,8 @@ use Rattle.meter.specs.Meter.{rates}
 use Rattle.rules.specs.Tables.{isRate}
 use Rattle.meter_list.specs.Layout.{Listed, Layout, fits, noFit, readRecords}
 use Rattle.rules.specs.Check.{check, allPass}
-use Rattle.scenarios.specs.Opening.{OpeningGives, capacity, fresh, Opened, opens, refuses, refusesRecord, openRecords, openList}
+use Rattle.scenarios.specs.Opening.{OpeningGives, capacity, Opened, opens, refuses, refusesRecord, openRecords, openList}
+use Rattle.fresh_meter.specs.Fresh.{fresh}
 use Rattle.bus.specs.Plain.{Plain}
 use Rattle.search.specs.Call.{Call, opening, sending, receiving, clearing, changing, searching, afterCall}
 use Rattle.search.specs.Answer.{Answer, opened, Gives, Answers}

@@ -10,11 +10,11 @@ use lib.Seq.{take-nil}
 use Rattle.laws.specs.Words.{keep}
 use Rattle.frame.specs.Frame.{Telegram, encode}
 use Rattle.clock.specs.declared.Clock.{Clock}
-use Rattle.bus.specs.Plain.{Plain}
-use Rattle.bus.specs.Steps.{withInput, withQueue, settled}
-use Rattle.bus.specs.Calls.{send}
+use Rattle.bus.specs.Plain.{Plain, withInput, withQueue}
+use Rattle.send.specs.Steps.{settled}
+use Rattle.send.specs.Send.{send}
 use Rattle.clock.specs.Fields.{goodClock}
-use Rattle.bus.proofs.SendLaws.{send-steps}
+use Rattle.send.proofs.SendLaws.{send-steps}
 use Rattle.walk.specs.Walk.{Entry, mask, reading, ask, probe, read, entryOf, wholeWalk}
 use Rattle.walk.proofs.Model.{Prefix, no-digit}
 use Rattle.walk.proofs.Program.{walkP, begun, heldRun, whole-held, walk-agree, pushUpTo, push-up-to, held-all}

@@ -16,11 +16,12 @@ use Rattle.clock.specs.declared.Clock.{Clock}
 use Rattle.meter.specs.Meter.{rates}
 use Rattle.rules.specs.Tables.{isRate}
 use Rattle.scenarios.specs.Opening.{Opened, opens, refuses, refusesRecord, openList}
-use Rattle.bus.specs.Plain.{Plain, blank}
-use Rattle.bus.specs.Steps.{withInput, settled}
-use Rattle.bus.specs.Calls.{afterOpening, Done, accepted, refused, send, receive, clear, changeBaud}
+use Rattle.bus.specs.Plain.{Plain, blank, withInput}
+use Rattle.bus.specs.Calls.{afterOpening, Done, accepted, refused, receive, clear, changeBaud}
+use Rattle.send.specs.Steps.{settled}
+use Rattle.send.specs.Send.{send}
 use Rattle.clock.specs.Fields.{goodClock}
-use Rattle.bus.proofs.SendLaws.{Waits, settled-waits}
+use Rattle.send.proofs.SendLaws.{Waits, settled-waits}
 use Rattle.walk.proofs.Seen.{WellFormed}
 use Rattle.walk.proofs.Fits.{Idle, well-sized, walk-fits-meters}
 use Rattle.search.specs.declared.EntryRecord.{EntryRecord}

@@ -16,7 +16,7 @@ use Rattle.scenarios.specs.Opening.{Opened, opens, refuses, refusesRecord, open
 use Rattle.scenarios.proofs.OpeningLaws.{OpensWell, openList-well}
 use Rattle.bus.specs.Plain.{Plain, blank}
 use Rattle.bus.specs.Calls.{afterOpening, Done, receive, clear, changeBaud}
-use Rattle.bus.proofs.SendLaws.{ids, send-ids}
+use Rattle.send.proofs.SendLaws.{ids, send-ids}
 use Rattle.walk.specs.Walk.{mask, reading, ask, probe, read, Walked, wholeWalk}
 use Rattle.walk.proofs.Model.{Digits}
 use Rattle.walk.proofs.Seen.{IdDigits, WellFormed}

@@ -5,7 +5,7 @@ use Prim.Native.Nat.{ℕ, zero, suc, _+_, _*_, _/_, _%_, _≤_, _<_}
 use native.Mathlib.Omega.{arith}
 use lib.ListN.{length}
 use Rattle.laws.specs.Words.{Every}
-use Rattle.values.specs.Values.{digitsOf}
+use Rattle.identity.specs.Identity.{digitsOf}
 
 -- digits behind a number, base 16: what the code computes
 abbrev pub keyFrom : ℕ → List ℕ → ℕ

@@ -17,7 +17,7 @@ use Rattle.bus.specs.declared.Segment.{Segment}
 use Rattle.bus.specs.Plain.{Plain}
 use Rattle.clock.specs.Fields.{goodClock}
 use Rattle.bus.specs.View.{plainOf}
-use Rattle.bus.proofs.SendLaws.{atRest}
+use Rattle.send.proofs.SendLaws.{atRest}
 use Rattle.walk.specs.Walk.{Walked, wholeWalk}
 use Rattle.walk.proofs.Program.{held-all}
 use Rattle.walk.proofs.Fits.{Idle, walk-fits-meters}

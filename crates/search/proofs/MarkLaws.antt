@@ -9,7 +9,8 @@ use Rattle.laws.specs.Words.{if_then_else_}
 use Rattle.meter.specs.PlainMeter.{PlainMeter}
 use Rattle.meter.specs.declared.Fault.{Fault}
 use Rattle.meter.specs.declared.Fault.the-variants.{None, Checksum, Truncated, Busy, WrongAddress, Flaky, TooMany}
-use Rattle.meter.specs.Meter.{withSelected, withHearsNext, reset, flaky, hears, put, matches}
+use Rattle.meter.specs.Meter.{withSelected, withHearsNext, reset, flaky, hears, put}
+use Rattle.matching.specs.Matching.{matches}
 use Rattle.hear.specs.Hear.{Heard, quiet, answers, E5, select}
 use Rattle.packed.specs.Marks.{bitIf, yesOf, hearsOf, marked}
 use Rattle.search.specs.Packing.{on, stand, standing}

@@ -4,7 +4,7 @@ use mathlib.Core.List.{List}
 use Prim.Native.Nat.{ℕ, zero, suc, _+_, _*_, _/_, _%_, _≤_, _<_}
 use native.Mathlib.Omega.{arith}
 use lib.ListN.{length}
-use Rattle.values.specs.Values.{digitsOf}
+use Rattle.identity.specs.Identity.{digitsOf}
 use Rattle.walk.specs.Walk.{one, mute, many}
 use Rattle.walk.proofs.Model.{Prefix}
 use Rattle.packed.specs.Packed.{spanOf}

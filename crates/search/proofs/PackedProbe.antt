@@ -9,15 +9,16 @@ use lib.Dec.{eqb}
 use lib.Ieee.{Float}
 use lib.ListN.{length}
 use Rattle.laws.specs.Words.{if_then_else_, keep, Every}
-use Rattle.values.specs.Values.{digitsOf}
+use Rattle.identity.specs.Identity.{digitsOf}
 use Rattle.meter.specs.PlainMeter.{PlainMeter}
 use Rattle.clock.specs.declared.Clock.{Clock}
-use Rattle.meter.specs.Meter.{hears, flaky, matches}
+use Rattle.meter.specs.Meter.{hears, flaky}
+use Rattle.matching.specs.Matching.{matches}
 use Rattle.hear.specs.Hear.{Heard, quiet, select, hear}
 use Rattle.hear.proofs.HearLaws.{hear-select}
 use Rattle.scenarios.specs.Opening.{capacity}
 use Rattle.clock.specs.Fields.{goodClock}
-use Rattle.bus.proofs.SendLaws.{atRest}
+use Rattle.send.proofs.SendLaws.{atRest}
 use Rattle.walk.specs.Walk.{mask, probe}
 use Rattle.walk.specs.Entries.{begins}
 use Rattle.walk.proofs.Model.{Prefix}

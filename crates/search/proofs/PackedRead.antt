@@ -11,14 +11,16 @@ use borrow.Author.Tests.{eqb-true}
 use Rattle.laws.specs.Words.{if_then_else_, keep, Every}
 use Rattle.meter.specs.PlainMeter.{PlainMeter}
 use Rattle.clock.specs.declared.Clock.{Clock}
-use Rattle.meter.specs.Meter.{hears, put, asked}
+use Rattle.meter.specs.Meter.{hears, put}
+use Rattle.asking.specs.Asking.{asked}
 use Rattle.hear.specs.Hear.{Heard, quiet, request}
 use Rattle.readout.specs.Response.{readout}
 use Rattle.hear.proofs.HearLaws.{hear-reading}
 use Rattle.scenarios.specs.Opening.{capacity}
-use Rattle.bus.specs.Plain.{Plain, joined}
+use Rattle.bus.specs.Plain.{Plain}
+use Rattle.replies.specs.Replies.{joined}
 use Rattle.clock.specs.Fields.{goodClock}
-use Rattle.bus.proofs.SendLaws.{atRest}
+use Rattle.send.proofs.SendLaws.{atRest}
 use Rattle.walk.specs.Walk.{Entry, one, mute, reading, read, entryOf}
 use Rattle.walk.specs.Entries.{begins, failsBy}
 use Rattle.walk.proofs.Model.{Prefix}

@@ -15,7 +15,7 @@ use Rattle.clock.specs.declared.Clock.{Clock}
 use Rattle.scenarios.specs.Opening.{capacity}
 use Rattle.bus.specs.Plain.{Plain}
 use Rattle.clock.specs.Fields.{goodClock}
-use Rattle.bus.proofs.SendLaws.{atRest}
+use Rattle.send.proofs.SendLaws.{atRest}
 use Rattle.walk.specs.Walk.{Entry, many, ten, probe, read, wholeWalk}
 use Rattle.walk.proofs.Model.{Prefix, no-digit, prefix-longer}
 use Rattle.walk.proofs.Program.{RunP, stoppedP, countedP, rowP, notedP, answeredP, probedP, walkP, heldRun, whole-held, pushUpTo, push-up-to}

@@ -7,7 +7,7 @@ use native.Mathlib.Omega.{arith}
 use lib.Dec.{eqb, leb}
 use borrow.Author.Tests.{le-leb, lt-leb, eqb-true, eqb-false, leb-true, leb-false}
 use lib.ListN.{length, replicate, length-append, length-replicate}
-use Rattle.values.specs.Values.{digitsOf}
+use Rattle.identity.specs.Identity.{digitsOf}
 use Rattle.walk.specs.Walk.{maskDigits}
 use Rattle.walk.proofs.Model.{Prefix}
 use Rattle.walk.proofs.MaskLaws.{digits-small}

@@ -11,7 +11,8 @@ use Rattle.meter.specs.PlainMeter.{PlainMeter}
 use Rattle.clock.specs.declared.Clock.{Clock}
 use Rattle.meter.specs.declared.Fault.{Fault}
 use Rattle.meter.specs.declared.Fault.the-variants.{None, Checksum, Truncated, Busy, WrongAddress, Flaky, TooMany}
-use Rattle.meter.specs.Meter.{flaky, hears, put, asked, readoutsNow}
+use Rattle.meter.specs.Meter.{flaky, hears, put}
+use Rattle.asking.specs.Asking.{asked, readoutsNow}
 use Rattle.hear.specs.Hear.{Heard, answers, request}
 use Rattle.packed.specs.Marks.{bitIf, yesOf, hearsOf, readoutsIn, readMark}
 use Rattle.search.specs.Packing.{on, stand, standing}

@@ -5,7 +5,8 @@ use Prim.Native.Nat.{ℕ}
 use lib.Ieee.{Float}
 use Rattle.clock.specs.declared.Clock.{Clock}
 use Rattle.bus.specs.Plain.{Plain}
-use Rattle.bus.specs.Calls.{afterOpening, send, receive, clear, changeBaud}
+use Rattle.bus.specs.Calls.{afterOpening, receive, clear, changeBaud}
+use Rattle.send.specs.Send.{send}
 use Rattle.search.specs.declared.EntryRecord.{EntryRecord}
 use Rattle.search.specs.SearchCall.{searchCall}
 

@@ -5,7 +5,7 @@ use Prim.Native.Nat.{ℕ, zero, suc, _+_, _*_, _/_, _%_, _<_}
 use lib.Dec.{eqb}
 use lib.ListN.{take, drop, replicate}
 use Rattle.laws.specs.Words.{if_then_else_}
-use Rattle.values.specs.Values.{digitsOf}
+use Rattle.identity.specs.Identity.{digitsOf}
 use Rattle.meter.specs.PlainMeter.{PlainMeter}
 use Rattle.meter.specs.Meter.{with, reached}
 use Rattle.meter.specs.declared.Meter.{Meter}

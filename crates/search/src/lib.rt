@@ -10,6 +10,7 @@ use bus::METERS;
 use bus::Segment;
 use clock::Clock;
 use clock::good_clock;
+use laws::least;
 use packed::walk_all;
 
 mod pack;
@@ -81,7 +82,7 @@ fn walk_packed(segment: Segment, allowance: u32) -> Core
     Core {
         outcome: made,
         entries: records,
-        count: pack::least(found, METERS),
+        count: least(found, METERS),
         probes: w.probes,
         spent: w.spent,
         segment: t,
@@ -102,7 +103,7 @@ fn is_empty(segment: Segment) -> bool
 fn meter_count(segment: Segment) -> usize
     ensures { λ r. ⌜ (r ≡ length ((plainOf segment) .meters)) × (r ≡ held segment) ⌝ }
 {
-    pack::least(segment.count, METERS)
+    least(segment.count, METERS)
 }
 
 // A search, by value; `room` is the number of entry records lent. It checks 14, 16, 17.

@@ -4,7 +4,7 @@ ghost use mathlib.Core.List.{map};
 ghost use Prim.Native.Nat.{ℕ, _≤_, min};
 ghost use lib.ListN.{length, take, replicate};
 ghost use Rattle.laws.specs.Words.{Every};
-ghost use Rattle.values.specs.Values.{digitsOf};
+ghost use Rattle.identity.specs.Identity.{digitsOf};
 ghost use Rattle.meter.specs.View.{plainMeter};
 ghost use Rattle.scenarios.specs.Opening.{capacity};
 ghost use Rattle.packed.specs.Marks.{sweptBy};
@@ -12,16 +12,11 @@ ghost use Rattle.search.specs.Packing.{faultBits, idOf, markOf, Bounded,
 use crate::EntryRecord;
 use crate::Kind;
 use bus::METERS;
+use laws::least;
 use meter::Fault;
 use meter::LastFcb;
 use meter::Meter;
 use packed::marks::bit;
-
-pub(crate) fn least(a: usize, b: usize) -> usize
-    ensures { λ r. ⌜ r ≡ min a b ⌝ }
-{
-    if a < b { a } else { b }
-}
 
 fn zeros() -> [u32; METERS]
     ensures { λ r. ⌜ r ≡ replicate capacity 0 ⌝ }

@@ -7,20 +7,28 @@ use native.Mathlib.Omega.{arith}
 use lib.Ieee.{round, sub}
 use lib.ListN.{length, replicate}
 use Rattle.frame.specs.Frame.{short, encode, sum, parse, parseShort, parseLong, parseBody}
-use Rattle.values.specs.Values.{makerCode, bcd, typeG, typeF, idBytes, nibbles, decimal, little}
+use Rattle.values.specs.Values.{bcd, little}
+use Rattle.identity.specs.Identity.{makerCode, idBytes, nibbles, decimal}
+use Rattle.dates.specs.Dates.{typeG, typeF}
 use Rattle.seconds.specs.Seconds.{whole, elapsedOf, notBelow0}
-use Rattle.meter.specs.Meter.{hears, put, alike, matches, asked}
-use Rattle.readout.specs.Response.{fixedData, head, clockF, heatFirst, heatSecond, electricity, water, userData, response, damaged, readout}
+use Rattle.meter.specs.Meter.{hears, put}
+use Rattle.asking.specs.Asking.{asked}
+use Rattle.matching.specs.Matching.{alike, matches}
+use Rattle.readout.specs.Response.{userData, response, damaged, readout}
+use Rattle.userdata.specs.UserData.{fixedData, head, clockF, heatFirst, heatSecond, electricity, water}
 use Rattle.hear.specs.Hear.{target, nke, request, select, commanded, listens, hear}
 use Rattle.meter.specs.Meter.{rates}
 use Rattle.rules.specs.Tables.{media, faults}
 use Rattle.meter_list.specs.Layout.{readTexts, readRecords}
 use Rattle.rules.specs.Check.{goodId, goodMaker, check}
-use Rattle.scenarios.specs.Opening.{capacity, ownBaud, seedOf, fresh, openRecords, openList}
-use Rattle.scenarios.specs.Builtins.{ok10}
-use Rattle.bus.specs.Plain.{Plain, blank, joined}
-use Rattle.bus.specs.Steps.{heardBy, handled, steps, settled}
-use Rattle.bus.specs.Calls.{afterOpening, send}
+use Rattle.scenarios.specs.Opening.{capacity, opens, openRecords, openList}
+use Rattle.fresh_meter.specs.Fresh.{ownBaud, seedOf, fresh}
+use Rattle.builtins.specs.Builtins.{ok10}
+use Rattle.bus.specs.Plain.{Plain, blank}
+use Rattle.bus.specs.Calls.{afterOpening}
+use Rattle.replies.specs.Replies.{joined}
+use Rattle.send.specs.Steps.{heardBy, handled, steps, settled}
+use Rattle.send.specs.Send.{send}
 use Rattle.clock.specs.Fields.{goodClock}
 use Rattle.walk.specs.Walk.{one, many, maskDigits, mask, reading, ask, probe, good, idOf, entryOf, read, ten, walk, wholeWalk}
 use Rattle.search.specs.SearchCall.{searchCall}
@@ -45,6 +53,10 @@ line-a = refl
 line-e : (send (encode (short 0x5B 11)) october (opened busyAt11)) .segment .queue ≡ 0x68 ∷ 0x04 ∷ 0x04 ∷ 0x68 ∷ 0x08 ∷ 0x0B ∷ 0x70 ∷ 0x08 ∷ 0x8B ∷ 0x16 ∷ []
 unfolding everything busyAt11
 line-e = refl
+
+line-j-opens : openList noMeter 2400 false ≡ opens []
+unfolding everything noMeter
+line-j-opens = refl
 
 line-j-none : outcome (walked noMeter) ≡ ([], 1, false)
 unfolding everything noMeter
@@ -92,6 +104,7 @@ table =
       g = refl;
       h = (refl, refl);
       i = refl;
+      j-opens = line-j-opens;
       j-none = line-j-none;
       j-one = line-j-one;
       j = λ s h. omega (arith, D-none (atBusBaud s) h);

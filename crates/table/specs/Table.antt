@@ -7,13 +7,18 @@ use lib.IntN.{pos}
 use lib.Ieee.{Float, nan, fin, binary64, round}
 use lib.ListN.{length}
 use Rattle.frame.specs.Frame.{short, encode}
-use Rattle.values.specs.Values.{makerCode, bcd, typeG, idBytes}
+use Rattle.values.specs.Values.{bcd}
+use Rattle.identity.specs.Identity.{makerCode, idBytes}
+use Rattle.dates.specs.Dates.{typeG}
 use Rattle.seconds.specs.Seconds.{whole, last32, elapsedOf}
 use Rattle.clock.specs.declared.Clock.{Clock}
-use Rattle.scenarios.specs.Opening.{seedOf}
-use Rattle.scenarios.specs.Builtins.{ok10}
-use Rattle.bus.specs.Plain.{Plain, blank, joined}
-use Rattle.bus.specs.Calls.{afterOpening, send}
+use Rattle.fresh_meter.specs.Fresh.{seedOf}
+use Rattle.builtins.specs.Builtins.{ok10}
+use Rattle.scenarios.specs.Opening.{opens, openList}
+use Rattle.bus.specs.Plain.{Plain, blank}
+use Rattle.bus.specs.Calls.{afterOpening}
+use Rattle.replies.specs.Replies.{joined}
+use Rattle.send.specs.Send.{send}
 use Rattle.walk.specs.Walk.{maskDigits, mask, Entry, one, many, Walked, wholeWalk}
 use Rattle.walk.specs.Entries.{atBusBaud, D}
 
@@ -84,7 +89,8 @@ pub record Table : Type 0 where
   pub h : (whole last32 (elapsedOf (round binary64 false 599 10) zeroSeconds) ≡ 59) × (whole last32 (elapsedOf nan zeroSeconds) ≡ 0)
   -- (i) the seed of id 12345678
   pub i : seedOf false (1 ∷ 2 ∷ 3 ∷ 4 ∷ 5 ∷ 6 ∷ 7 ∷ 8 ∷ []) ≡ 43672
-  -- (j) no meter, one meter; and the price of no or one meter at bus baud, whatever it is
+  -- (j) no meter (the list is opened, not refused), one meter; and the price of no or one meter at bus baud, whatever it is
+  pub j-opens : openList noMeter 2400 false ≡ opens []
   pub j-none : outcome (walked noMeter) ≡ ([], 1, false)
   pub j-one : outcome (walked oneMeter) ≡ (one (6 ∷ 1 ∷ 0 ∷ 0 ∷ 0 ∷ 0 ∷ 0 ∷ 1 ∷ []) ∷ [], 1, false)
   pub j : (s : Plain) → length (atBusBaud s) ≤ 1 → 1 + 10 * D (atBusBaud s) ≡ 1

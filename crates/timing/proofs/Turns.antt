@@ -9,15 +9,16 @@ use lib.ListN.{replicate, length-replicate}
 use Rattle.laws.specs.Words.{if_then_else_}
 use Rattle.clock.specs.declared.Clock.{Clock}
 use Rattle.meter.specs.PlainMeter.{PlainMeter}
-use Rattle.scenarios.specs.Gather.{isAccepted}
-use Rattle.scenarios.specs.Given.{refusalNumber, refusalIndex}
+use Rattle.refusals.specs.Refusals.{isAccepted}
+use Rattle.refusals.specs.Refusals.{refusalNumber, refusalIndex}
 use Rattle.scenarios.specs.Opening.{capacity, Opened, opens, refuses, refusesRecord, metersIn, OpeningGives, openList}
-use Rattle.scenarios.specs.declared.Refusal.{Refusal}
+use Rattle.refusals.specs.declared.Refusal.{Refusal}
 use Rattle.bus.specs.Plain.{Plain}
-use Rattle.bus.specs.Calls.{Done, afterOpening, send, clear}
+use Rattle.bus.specs.Calls.{Done, afterOpening, clear}
 use Rattle.bus.specs.View.{plainOf}
 use Rattle.bus.specs.declared.Segment.{Segment}
 use Rattle.bus.proofs.OpenLaws.{opening-accepted, opening-refused}
+use Rattle.send.specs.Send.{send}
 use Rattle.search.specs.declared.Core.{Core}
 use Rattle.search.specs.SearchCall.{Searched, searchCall}
 use Rattle.search.specs.View.{noEntry, coreGives, Finds}

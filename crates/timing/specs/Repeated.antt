@@ -5,7 +5,8 @@ use lib.ListN.{replicate}
 use Rattle.clock.specs.declared.Clock.{Clock}
 use Rattle.scenarios.specs.Opening.{capacity, Opened, opens, refuses, refusesRecord}
 use Rattle.bus.specs.Plain.{Plain}
-use Rattle.bus.specs.Calls.{send, clear}
+use Rattle.bus.specs.Calls.{clear}
+use Rattle.send.specs.Send.{send}
 use Rattle.search.specs.SearchCall.{searchCall}
 use Rattle.search.specs.View.{noEntry}
 

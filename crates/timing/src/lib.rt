@@ -3,16 +3,17 @@ ghost use mathlib.Core.Path.{_≡_};
 ghost use Prim.Native.Nat.{_%_, _^_};
 ghost use Rattle.laws.specs.Words.{if_then_else_};
 ghost use Rattle.scenarios.specs.Opening.{openList};
-ghost use Rattle.scenarios.specs.Gather.{isAccepted};
-ghost use Rattle.bus.specs.View.{plainOf, sendingNumber};
+ghost use Rattle.refusals.specs.Refusals.{isAccepted};
+ghost use Rattle.bus.specs.View.{plainOf};
+ghost use Rattle.send.specs.View.{sendingNumber};
 ghost use Rattle.image.specs.Image.{imaged};
 ghost use Rattle.timing.specs.Repeated.{accepted, acceptedSends, acceptedOpenings, probesMade};
 use bus::METERS;
 use bus::Segment;
-use bus::Sending;
 use clock::Clock;
 use image::IMAGE;
-use scenarios::Refusal;
+use refusals::Refusal;
+use send::Sending;
 
 // 1 for an accepted send.
 fn accepted_send(answer: Sending) -> u32
@@ -34,7 +35,7 @@ fn sends(segment: Segment, piece: &[u8], clock: Clock, times: u32) -> u32
     let mut n: u32 = 0;
     let mut i: u32 = 0;
     while i < times {
-        let sent = bus::send(s, piece, clock);
+        let sent = send::send(s, piece, clock);
         let answer = sent.answer;
         let t = sent.segment;
         s = t;
@@ -76,11 +77,7 @@ pub extern "C" fn timing_sends(
 fn accepted_opening(answer: Refusal) -> u32
     ensures { λ r. ⌜ r ≡ (if isAccepted answer then 1 else 0) ⌝ }
 {
-    if scenarios::opening::is_accepted(answer) {
-        1
-    } else {
-        0
-    }
+    if refusals::is_accepted(answer) { 1 } else { 0 }
 }
 
 fn opens(segment: Segment, list: &[u8], baud: u32, practice: bool, origin: f64, times: u32) -> u32

@@ -1,13 +1,13 @@
--- What the values' bytes are: how many, each below 256, which digits they depend on, and digits that were written read back. Assumes nothing.
+-- What a number's bytes are: how many, each below 256, and which digits they depend on. Assumes nothing.
 use mathlib.Core.Path.{_≡_, refl, sym, ap, ap₂, _∙_}
 use mathlib.Core.List.{List, [], _∷_, _++_}
-use Prim.Native.Nat.{ℕ, zero, suc, _+_, _-_, _*_, _/_, _%_, _^_, _≤_, _<_}
+use Prim.Native.Nat.{ℕ, zero, suc, _+_, _*_, _/_, _%_, _^_, _<_}
 use native.Mathlib.Nat.{pow-suc, one-le-pow}
 use native.Mathlib.Omega.{arith}
 use lib.Arith.{mod-mul}
-use lib.ListN.{length, getD}
+use lib.ListN.{length}
 use Rattle.laws.specs.Words.{Every}
-use Rattle.values.specs.Values.{little, bcd, typeG, typeF, capital, makerCode, idBytes, nibbles, digitsOf}
+use Rattle.values.specs.Values.{little, bcd}
 
 -- ---- how many bytes
 
@@ -20,14 +20,6 @@ pub length-bcd : (n v : ℕ) → length (bcd n v) ≡ n
 unfolding bcd
 length-bcd zero v = refl
 length-bcd (suc n) v = ap suc (length-bcd n (v / 100))
-
-pub length-typeG : (year month day : ℕ) → length (typeG year month day) ≡ 2
-unfolding typeG
-length-typeG year month day = refl
-
-pub length-typeF : (year month day hour minute : ℕ) → length (typeF year month day hour minute) ≡ 4
-unfolding typeF typeG
-length-typeF year month day hour minute = refl
 
 -- ---- each is a byte
 
@@ -46,14 +38,6 @@ pub bcd-bytes : (n v : ℕ) → Every (λ b. b < 256) (bcd n v)
 unfolding bcd
 bcd-bytes zero v = tt
 bcd-bytes (suc n) v = (digits-below v, bcd-bytes n (v / 100))
-
-pub typeG-bytes : (year month day : ℕ) → Every (λ b. b < 256) (typeG year month day)
-unfolding typeG
-typeG-bytes year month day = (byte-below (day + year % 100 % 8 * 32), (byte-below (month + year % 100 / 8 * 16), tt))
-
-pub typeF-bytes : (year month day hour minute : ℕ) → Every (λ b. b < 256) (typeF year month day hour minute)
-unfolding typeF
-typeF-bytes year month day hour minute = (byte-below minute, (byte-below hour, typeG-bytes year month day))
 
 -- ---- what lies above the last digit has no part in the bytes
 
@@ -131,81 +115,3 @@ bcd-six v = rw (fifth, sixth)
 
     sixth : v / 100000000 / 100 ≡ v / 10000000000
     sixth = omega arith
-
--- ---- the manufacturer's code by the number of letters
-
-abbrev five : ℕ → ℕ
-five l = (capital l - 0x40) % 32
-
-pub code-none : (ls : List ℕ) → length ls ≡ 0 → 0 ≡ makerCode ls
-unfolding makerCode
-code-none [] e = refl
-code-none (a ∷ ls) e = absurd (omega arith)
-
-pub code-one : {a : ℕ} (ls : List ℕ) → a ≡ five (getD ls 0 0) → length ls ≡ 1 → a ≡ makerCode ls
-unfolding makerCode
-code-one [] p e = absurd (omega arith)
-code-one (k ∷ []) p e = omega arith
-code-one (k ∷ l ∷ ls) p e = absurd (omega arith)
-
-pub code-two : {a b : ℕ} (ls : List ℕ) → a ≡ five (getD ls 0 0) → b ≡ five (getD ls 1 0) → length ls ≡ 2 → a * 32 + b ≡ makerCode ls
-unfolding makerCode
-code-two [] p q e = absurd (omega arith)
-code-two (k ∷ []) p q e = absurd (omega arith)
-code-two (k ∷ l ∷ []) p q e = omega arith
-code-two (k ∷ l ∷ m ∷ ls) p q e = absurd (omega arith)
-
-pub code-three : {a b c : ℕ} (ls : List ℕ) → a ≡ five (getD ls 0 0) → b ≡ five (getD ls 1 0) → c ≡ five (getD ls 2 0) → 3 ≤ length ls → (a * 32 + b) * 32 + c ≡ makerCode ls
-unfolding makerCode
-code-three [] p q r e = absurd (omega arith)
-code-three (k ∷ []) p q r e = absurd (omega arith)
-code-three (k ∷ l ∷ []) p q r e = absurd (omega arith)
-code-three (k ∷ l ∷ m ∷ ls) p q r e = omega arith
-
--- fifteen bits at most
-pub code-below : (ls : List ℕ) → makerCode ls < 32768
-unfolding makerCode
-code-below [] = omega arith
-code-below (k ∷ []) = omega arith
-code-below (k ∷ l ∷ []) = omega arith
-code-below (k ∷ l ∷ m ∷ ls) = omega arith
-
--- ---- ids
-
-upper : (a b : ℕ) → b < 16 → (a * 16 + b) / 16 ≡ a
-upper a b h = omega arith
-
-lower : (a b : ℕ) → b < 16 → (a * 16 + b) % 16 ≡ b
-lower a b h = omega arith
-
-pub nibbles-id : (ds rest : List ℕ) → length ds ≡ 8 → Every (λ d. d < 16) ds → nibbles (idBytes ds ++ rest) ≡ ds
-unfolding idBytes nibbles
-nibbles-id [] rest e h = absurd (omega arith)
-nibbles-id (a ∷ []) rest e h = absurd (omega arith)
-nibbles-id (a ∷ b ∷ []) rest e h = absurd (omega arith)
-nibbles-id (a ∷ b ∷ c ∷ []) rest e h = absurd (omega arith)
-nibbles-id (a ∷ b ∷ c ∷ d ∷ []) rest e h = absurd (omega arith)
-nibbles-id (a ∷ b ∷ c ∷ d ∷ f ∷ []) rest e h = absurd (omega arith)
-nibbles-id (a ∷ b ∷ c ∷ d ∷ f ∷ g ∷ []) rest e h = absurd (omega arith)
-nibbles-id (a ∷ b ∷ c ∷ d ∷ f ∷ g ∷ i ∷ []) rest e h = absurd (omega arith)
-nibbles-id (a ∷ b ∷ c ∷ d ∷ f ∷ g ∷ i ∷ j ∷ k ∷ ds) rest e h = absurd (omega arith)
-nibbles-id (a ∷ b ∷ c ∷ d ∷ f ∷ g ∷ i ∷ j ∷ []) rest e h =
-    rw (
-      upper a b (h .1 .0),
-      lower a b (h .1 .0),
-      upper c d (h .1 .1 .1 .0),
-      lower c d (h .1 .1 .1 .0),
-      upper f g (h .1 .1 .1 .1 .1 .0),
-      lower f g (h .1 .1 .1 .1 .1 .0),
-      upper i j (h .1 .1 .1 .1 .1 .1 .1 .0),
-      lower i j (h .1 .1 .1 .1 .1 .1 .1 .0),
-    )
-
--- the id's nibbles, two to a byte, are its bytes
-pub id-little : (id : ℕ) → idBytes (digitsOf id) ≡ little 4 id
-unfolding idBytes digitsOf
-id-little id =
-    rw (little-four id, joined id (id / 0x10) (omega arith), joined (id / 0x100) (id / 0x1000) (omega arith), joined (id / 0x10000) (id / 0x100000) (omega arith), joined (id / 0x1000000) (id / 0x10000000) (omega arith))
-  where
-    joined : (x y : ℕ) → y ≡ x / 16 → y % 16 * 16 + x % 16 ≡ x % 256
-    joined x y e = omega arith

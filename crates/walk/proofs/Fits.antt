@@ -11,7 +11,7 @@ use lib.ListN.{length, take, length-map, length-take}
 use Rattle.laws.specs.Words.{keep, Every}
 use Rattle.laws.proofs.Lists.{every-map, every-all, every-image, keep-same, keep-map, keep-keep, keep-fewer, length-keep, map-map, map-same, and-l, and-r, and-both}
 use Rattle.frame.specs.Frame.{encode}
-use Rattle.values.specs.Values.{digitsOf}
+use Rattle.identity.specs.Identity.{digitsOf}
 use Rattle.meter.specs.PlainMeter.{PlainMeter}
 use Rattle.clock.specs.declared.Clock.{Clock}
 use Rattle.meter.specs.declared.Fault.the-variants.{None}
@@ -22,9 +22,9 @@ use Rattle.scenarios.specs.Opening.{capacity}
 use Rattle.bus.specs.Plain.{Plain}
 use Rattle.bus.specs.declared.Segment.{Segment}
 use Rattle.bus.specs.View.{plainOf}
-use Rattle.bus.specs.Calls.{send}
+use Rattle.send.specs.Send.{send}
 use Rattle.clock.specs.Fields.{goodClock}
-use Rattle.bus.proofs.SendLaws.{atRest}
+use Rattle.send.proofs.SendLaws.{atRest}
 use Rattle.walk.specs.Walk.{Entry, mask, reading, probe, read, Walked, wholeWalk}
 use Rattle.walk.specs.Entries.{having, begins, atBus}
 use Rattle.walk.proofs.Model.{Prefix, no-digit}

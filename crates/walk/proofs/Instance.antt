@@ -13,7 +13,7 @@ use Rattle.meter.specs.Meter.{flaky}
 use Rattle.scenarios.specs.Opening.{capacity}
 use Rattle.bus.specs.Plain.{Plain}
 use Rattle.clock.specs.Fields.{goodClock}
-use Rattle.bus.proofs.SendLaws.{atRest}
+use Rattle.send.proofs.SendLaws.{atRest}
 use Rattle.walk.specs.Walk.{probe, read, wholeWalk}
 use Rattle.walk.specs.Entries.{atBus, atBusBaud, NoFlaky, having, loneEntry}
 use Rattle.walk.proofs.Model.{no-digit, Run, modelSearch}

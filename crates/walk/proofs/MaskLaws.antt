@@ -10,10 +10,10 @@ use borrow.Author.Tests.{ne-eqb}
 use Rattle.laws.specs.Words.{Every}
 use Rattle.laws.proofs.Lists.{every-append}
 use Rattle.frame.specs.Frame.{long, encode}
-use Rattle.values.specs.Values.{idBytes}
-use Rattle.values.proofs.ValueLaws.{nibbles-id}
+use Rattle.identity.specs.Identity.{idBytes}
+use Rattle.identity.proofs.IdentityLaws.{nibbles-id}
 use Rattle.meter.specs.PlainMeter.{PlainMeter}
-use Rattle.meter.specs.Meter.{alike, matches}
+use Rattle.matching.specs.Matching.{alike, matches}
 use Rattle.walk.specs.Walk.{maskDigits, mask}
 use Rattle.walk.specs.Entries.{begins}
 use Rattle.walk.proofs.Model.{Digits, Prefix}

@@ -13,18 +13,22 @@ use Rattle.frame.specs.Frame.{Telegram, encode}
 use Rattle.seconds.specs.Seconds.{elapsedOf}
 use Rattle.meter.specs.PlainMeter.{PlainMeter}
 use Rattle.clock.specs.declared.Clock.{Clock}
-use Rattle.meter.specs.Meter.{hears, put, asked}
+use Rattle.meter.specs.Meter.{hears, put}
+use Rattle.asking.specs.Asking.{asked}
 use Rattle.readout.specs.Response.{readout}
 use Rattle.hear.specs.Hear.{silence, says, E5, hear}
 use Rattle.hear.proofs.HearLaws.{probed-reply, read-reply}
 use Rattle.readout.proofs.ReadoutLaws.{readout-short}
 use Rattle.scenarios.specs.Opening.{capacity}
-use Rattle.bus.specs.Plain.{Plain, joined}
-use Rattle.bus.specs.Steps.{replies, toAll, withQueue}
-use Rattle.bus.specs.Calls.{Done, accepted, send}
+use Rattle.bus.specs.Plain.{Plain, withQueue}
+use Rattle.bus.specs.Calls.{Done, accepted}
+use Rattle.replies.specs.Replies.{joined}
+use Rattle.send.specs.Steps.{replies, toAll}
+use Rattle.send.specs.Send.{send}
 use Rattle.clock.specs.Fields.{goodClock}
-use Rattle.bus.proofs.JoinLaws.{replies-keep, joined-acks, count-acks, joined-short}
-use Rattle.bus.proofs.SendLaws.{atRest, sentTo, afterSent, send-rest}
+use Rattle.replies.proofs.JoinLaws.{joined-acks, count-acks, joined-short}
+use Rattle.send.proofs.RepliesLaws.{replies-keep}
+use Rattle.send.proofs.SendLaws.{atRest, sentTo, afterSent, send-rest}
 use Rattle.walk.specs.Walk.{mask, reading, ask, probe, entryOf, read}
 use Rattle.walk.specs.Entries.{begins, atBus}
 use Rattle.walk.proofs.Model.{Prefix}

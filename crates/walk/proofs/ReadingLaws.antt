@@ -11,13 +11,13 @@ use borrow.Author.Tests.{eq-eqb, le-leb, lt-ltb, le-ltb, leb-true, leb-false}
 use Rattle.laws.specs.Words.{if_then_else_, Every}
 use Rattle.frame.specs.Frame.{Telegram, long, Why, checksum, complete, incomplete, invalid, parse, encode}
 use Rattle.frame.proofs.RoundTrip.{parse-encode}
-use Rattle.values.specs.Values.{idBytes, nibbles}
-use Rattle.values.proofs.ValueLaws.{nibbles-id}
+use Rattle.identity.specs.Identity.{idBytes, nibbles}
+use Rattle.identity.proofs.IdentityLaws.{nibbles-id}
 use Rattle.meter.specs.PlainMeter.{PlainMeter}
 use Rattle.clock.specs.declared.Clock.{Clock}
 use Rattle.meter.specs.declared.Fault.{Fault}
 use Rattle.meter.specs.declared.Fault.the-variants.{None, Checksum, Truncated, Busy, WrongAddress, Flaky, TooMany}
-use Rattle.meter.specs.Meter.{asked, readoutsNow}
+use Rattle.asking.specs.Asking.{asked, readoutsNow}
 use Rattle.readout.specs.Response.{userData, error, response, damaged, readout}
 use Rattle.readout.proofs.ReadoutLaws.{Shape, userData-shape, flipped-fails, cut-waits, length-id}
 use Rattle.walk.specs.Walk.{one, mute, good, idOf, entryOf}

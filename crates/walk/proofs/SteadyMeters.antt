@@ -12,13 +12,15 @@ use Rattle.laws.specs.Words.{if_then_else_, keep, Every}
 use Rattle.laws.proofs.Lists.{every-map, every-both, every-all, every-keep, every-image, keep-passes, keep-same, keep-map, keep-keep, map-map, map-same, and-l, and-r}
 use Rattle.meter.specs.PlainMeter.{PlainMeter}
 use Rattle.clock.specs.declared.Clock.{Clock}
-use Rattle.meter.specs.Meter.{flaky, hears, put, withHearsNext, asked}
+use Rattle.meter.specs.Meter.{flaky, hears, put, withHearsNext}
+use Rattle.asking.specs.Asking.{asked}
 use Rattle.readout.specs.Response.{readout}
 use Rattle.hear.proofs.HearLaws.{Alike, alike-trans, probed-alike, probed-readouts, probed-selected, read-alike, read-left}
 use Rattle.scenarios.specs.Opening.{capacity}
-use Rattle.bus.specs.Plain.{Plain, joined}
+use Rattle.bus.specs.Plain.{Plain}
+use Rattle.replies.specs.Replies.{joined}
 use Rattle.clock.specs.Fields.{goodClock}
-use Rattle.bus.proofs.SendLaws.{atRest}
+use Rattle.send.proofs.SendLaws.{atRest}
 use Rattle.walk.specs.Walk.{Entry, mask, reading, probe, read, entryOf}
 use Rattle.walk.specs.Entries.{atBus, begins, having, loneEntry}
 use Rattle.walk.proofs.Model.{Prefix}

@@ -9,7 +9,8 @@ use Rattle.laws.specs.Words.{if_then_else_, keep, Every}
 use Rattle.meter.specs.PlainMeter.{PlainMeter}
 use Rattle.meter.specs.declared.Fault.{Fault}
 use Rattle.meter.specs.declared.Fault.the-variants.{None, Checksum, Truncated, Busy, WrongAddress, Flaky, TooMany}
-use Rattle.meter.specs.Meter.{alike, flaky}
+use Rattle.meter.specs.Meter.{flaky}
+use Rattle.matching.specs.Matching.{alike}
 use Rattle.bus.specs.Plain.{Plain}
 use Rattle.walk.specs.Walk.{maskDigits, Entry, one, mute, many, ten}
 

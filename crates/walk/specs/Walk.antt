@@ -9,12 +9,11 @@ use lib.Bits.{bitAnd}
 use lib.ListN.{length, replicate}
 use Rattle.laws.specs.Words.{if_then_else_, keep}
 use Rattle.frame.specs.Frame.{Telegram, ack, short, long, complete, incomplete, invalid, parse, encode}
-use Rattle.values.specs.Values.{idBytes, nibbles}
+use Rattle.identity.specs.Identity.{idBytes, nibbles}
 use Rattle.clock.specs.declared.Clock.{Clock}
-use Rattle.meter.specs.Meter.{alike}
-use Rattle.bus.specs.Plain.{Plain}
-use Rattle.bus.specs.Steps.{withQueue}
-use Rattle.bus.specs.Calls.{send}
+use Rattle.matching.specs.Matching.{alike}
+use Rattle.bus.specs.Plain.{Plain, withQueue}
+use Rattle.send.specs.Send.{send}
 
 -- ---- the telegrams of a search
 

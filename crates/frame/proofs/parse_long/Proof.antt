@@ -1,11 +1,11 @@
 use borrow.Author.Needs.{needs}
 use mathlib.Core.List.{List}
-use mathlib.Core.Path.{_≡_, sym, ap, _∙_}
+use mathlib.Core.Path.{_≡_, refl, sym, ap, _∙_}
 use native.Mathlib.Omega.{arith}
 use Prim.Native.Nat.{ℕ, _+_, _-_}
 use lib.ListN.{take, drop}
 use Rattle.frame.specs.Frame.{sum}
-use Rattle.frame.proofs.Cases.{long-few, long-lengths, long-start, long-below, Whole, long-sum, long-stop, long-whole}
+use Rattle.frame.proofs.Cases.{found, long-few, long-lengths, long-start, long-below, Whole, long-sum, long-stop, long-whole, whole-data}
 use Rattle.frame.proofs.RoundTrip.{parseLong-waits}
 use Rattle.frame.proofs.parse_long.Statement.{statement}
 use Rattle.frame.proofs.parse_long.Tie as tie
@@ -29,7 +29,7 @@ summed c =
     c .checksum .ensures ∙ ap (λ n. sum (take n (drop 4 (bytes w)))) e
 
 returns : tie.Need-returns
-returns c = sym (long-few _ (c .if1 .taken))
+returns c = found (sym (long-few _ (c .if1 .taken))) refl
 
 shared-slice-read-wide : tie.Need-shared-slice-read-wide
 shared-slice-read-wide c = search needs
@@ -44,22 +44,22 @@ wide-requires-2 : tie.Need-wide-requires-2
 wide-requires-2 c κs = search needs
 
 returns-2 : tie.Need-returns-2
-returns-2 c = sym (long-lengths _ (omega arith) (λ e. c .if2 .taken (omega arith)))
+returns-2 c = found (sym (long-lengths _ (omega arith) (λ e. c .if2 .taken (omega arith)))) refl
 
 shared-slice-read-if3 : tie.Need-shared-slice-read-if3
 shared-slice-read-if3 c = search needs
 
 returns-3 : tie.Need-returns-3
-returns-3 c = sym (long-start _ (omega arith) (omega arith) (c .if3 .taken))
+returns-3 c = found (sym (long-start _ (omega arith) (omega arith) (c .if3 .taken))) refl
 
 returns-4 : tie.Need-returns-4
-returns-4 c = sym (long-below _ (omega arith) (omega arith) (c .before .if3 .left) (omega arith))
+returns-4 c = found (sym (long-below _ (omega arith) (omega arith) (c .before .if3 .left) (omega arith))) refl
 
 add-if5 : tie.Need-add-if5
 add-if5 c = omega (arith, c .before .before .before .before .before .before .before .shared-slice-known2 .given 1)
 
 returns-5 : tie.Need-returns-5
-returns-5 c = sym (parseLong-waits _ (omega arith) (omega arith) (c .before .before .if3 .left) (omega arith) (omega arith))
+returns-5 c = found (sym (parseLong-waits _ (omega arith) (omega arith) (c .before .before .if3 .left) (omega arith) (omega arith))) refl
 
 add-checksum : tie.Need-add-checksum
 add-checksum c = search needs
@@ -83,7 +83,7 @@ shared-slice-read-if6 : tie.Need-shared-slice-read-if6
 shared-slice-read-if6 c = search needs
 
 returns-6 : tie.Need-returns-6
-returns-6 c = sym (long-sum _ _ (whole (c .before .before .before .before)) (λ e. c .if6 .taken (e ∙ sym (summed (c .before .before)))))
+returns-6 c = found (sym (long-sum _ _ (whole (c .before .before .before .before)) (λ e. c .if6 .taken (e ∙ sym (summed (c .before .before)))))) refl
 
 add-if7 : tie.Need-add-if7
 add-if7 c = search needs
@@ -94,7 +94,7 @@ shared-slice-read-if7 c = search needs
 returns-7 : tie.Need-returns-7
 returns-7 c =
     let t = c .before .before .before .before in
-    sym (long-stop _ _ (whole (t .before .before)) (c .before .before .if6 .left ∙ summed t) (c .if7 .taken))
+    found (sym (long-stop _ _ (whole (t .before .before)) (c .before .before .if6 .left ∙ summed t) (c .if7 .taken))) refl
 
 shared-slice-read-t7 : tie.Need-shared-slice-read-t7
 shared-slice-read-t7 c = search needs
@@ -111,7 +111,8 @@ add-t13 c = search needs
 returns-8 : tie.Need-returns-8
 returns-8 c =
     let t = c .before .before .before .before .before .before .before in
-    long-whole _ _ (whole (t .before .before)) (c .before .before .before .before .before .if6 .left ∙ summed t) (c .before .before .before .if7 .left)
+    let w = whole (t .before .before) in
+    found (long-whole _ _ w (c .before .before .before .before .before .if6 .left ∙ summed t) (c .before .before .before .if7 .left)) (whole-data _ _ w)
 
 pub parse-long-spec : {M : Type 1} → statement M
 parse-long-spec =

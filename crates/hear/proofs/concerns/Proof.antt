@@ -1,8 +1,8 @@
 use mathlib.Core.Path.{sym, ap, _∙_}
 use denote.Ref.{now}
 use Rattle.frame.specs.View.{telegramOf}
-use Rattle.values.specs.Values.{digitsOf}
-use Rattle.hear.specs.Hear.{concerns}
+use Rattle.identity.specs.Identity.{digitsOf}
+use Rattle.hear.specs.Concern.{concerns}
 use borrow.Author.Needs.{needs}
 use Rattle.hear.proofs.concerns.Statement.{statement}
 use Rattle.hear.proofs.concerns.Tie as tie

@@ -5,7 +5,8 @@ use native.Mathlib.Omega.{arith}
 use lib.ListN.{length, take, drop, length-take, length-drop, length-set}
 use borrow.Author.Needs.{needs}
 use Rattle.scenarios.specs.Opening.{capacity}
-use Rattle.image.specs.Image.{metered}
+use Rattle.meter_image.specs.MeterBytes.{metered}
+use Rattle.meter_image.proofs.MeterLaws.{enough}
 use Rattle.image.proofs.MeterLaws.{Got, got-none, got-more, got-all}
 use Rattle.image.proofs.read_meters.Statement.{statement}
 use Rattle.image.proofs.read_meters.Tie as tie
@@ -39,7 +40,7 @@ part-read-meter-end : tie.Need-part-read-meter-end Inv-loop μ-loop
 part-read-meter-end c = omega arith
 
 read-meter-requires : tie.Need-read-meter-requires Inv-loop μ-loop
-read-meter-requires c κs = simp (length-take, length-drop) (omega arith)
+read-meter-requires c κs = search needs
 
 mul-ms : tie.Need-mul-ms Inv-loop μ-loop
 mul-ms c = omega arith
@@ -59,13 +60,15 @@ loop-again c =
     let a = c .before .before .before .before .before .before .args in
     let at = c .before .before .before .loop in
     let inv = at .inv in
-    let e : 25 * at .i + 25 - 25 * at .i ≡ 25 = omega arith in (
+    let e : 25 * at .i + 25 - 25 * at .i ≡ 25 = omega arith in
+    let part = take (25 * at .i + 25 - 25 * at .i) (drop (25 * at .i) (a .bs .now)) in
+    let h : 25 ≤ length part = simp (length-take, length-drop) (omega arith) in (
       omega arith,
       inv .1,
       inv .2,
       simp length-set (inv .3),
       got-more (c .read-meter .result) (inv .4) (omega arith)
-          (c .read-meter .ensures ∙ ap (λ (k : ℕ). metered (take k (drop (25 * at .i) (a .bs .now)))) e),
+          (c .read-meter .ensures ∙ ap metered (enough part h) ∙ ap (λ (k : ℕ). metered (take k (drop (25 * at .i) (a .bs .now)))) e),
     )
 
 returns : tie.Need-returns Inv-loop μ-loop

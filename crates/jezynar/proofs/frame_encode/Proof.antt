@@ -1,38 +1,16 @@
 -- `jezynar::frame_encode` meets its contract. Assumes nothing.
-use mathlib.Core.Path.{_≡_, ap, _∙_}
-use Prim.Native.Nat.{ℕ, _+_, _*_}
-use native.Mathlib.Omega.{arith}
-use Rattle.frame.specs.Frame.{Telegram, Written, write}
-use Rattle.frame.specs.View.{telegramOf, writtenOf, countOf}
-use Rattle.jezynar.proofs.TelegramLaws.{written-most}
 use borrow.Author.Needs.{needs}
 use Rattle.jezynar.proofs.frame_encode.Statement.{statement}
 use Rattle.jezynar.proofs.frame_encode.Tie as tie
 
-frame-by-requires : tie.Need-frame-by-requires
-frame-by-requires c κs = search needs
-
 encode-requires : tie.Need-encode-requires
 encode-requires c κs = search needs
-
-packed-written-requires : tie.Need-packed-written-requires
-packed-written-requires c κs =
-    let d = c .before .before in
-    let a = d .before .before .before .before .before .args in
-    omega (arith, ap (λ (w : Written). w .count) (d .encode .ensures), written-most (telegramOf (d .before .before .frame-by .result) (a .«data» .now)) (a .lent .now))
 
 same-length : tie.Need-same-length
 same-length c = search needs
 
 returns : tie.Need-returns
-returns c =
-    let d = c .before .before .before in
-    let f = d .before .before in
-    let a = f .before .before .before .args in
-    let e = d .encode .ensures ∙ ap (λ (t : Telegram). write t (a .lent .now)) (f .frame-by .ensures (a .«data» .now)) in
-    record { answers = c .packed-written .ensures ∙ ap (λ (w : Written). (w .number) * 65536 + w .count) e; lent = ap (λ (w : Written). w .lent) e }
+returns c = c .before .before .encode .ensures
 
 pub frame-encode-spec : {M : Type 1} → statement M
-frame-encode-spec =
-    tie.close
-    (tie.spec frame-by-requires encode-requires packed-written-requires same-length returns)
+frame-encode-spec = tie.close (tie.spec encode-requires same-length returns)

@@ -1,12 +1,4 @@
 -- `jezynar::frame_parse` meets its contract. Assumes nothing.
-use mathlib.Core.Path.{_≡_, sym, ap, _∙_}
-use mathlib.Core.List.{List, [], _∷_, _++_}
-use Prim.Native.Nat.{ℕ}
-use lib.ListN.{length}
-use Rattle.values.specs.Values.{little}
-use Rattle.frame.specs.Frame.{dataOf}
-use Rattle.frame.specs.View.{telegramOf, dataAt, parsedOf}
-use Rattle.jezynar.specs.Telegrams.{headOf, parsedNumber, describedIn}
 use borrow.Author.Needs.{needs}
 use Rattle.jezynar.proofs.frame_parse.Statement.{statement}
 use Rattle.jezynar.proofs.frame_parse.Tie as tie
@@ -14,80 +6,8 @@ use Rattle.jezynar.proofs.frame_parse.Tie as tie
 parse-requires : tie.Need-parse-requires
 parse-requires c κs = search needs
 
-enum-known-frame : tie.Need-enum-known-frame
-enum-known-frame c = search needs
-
-data-of-requires : tie.Need-data-of-requires
-data-of-requires c κs = search needs
-
-data-count-requires : tie.Need-data-count-requires
-data-count-requires c κs = search needs
-
-head-of-requires : tie.Need-head-of-requires
-head-of-requires c κs = search needs
-
-description-requires : tie.Need-description-requires
-description-requires c κs = search needs
-
-enum-told : tie.Need-enum-told
-enum-told c = search needs
-
-enum-known-why : tie.Need-enum-known-why
-enum-known-why c = search needs
-
-why-number-requires : tie.Need-why-number-requires
-why-number-requires c κs = search needs
-
 returns : tie.Need-returns
-returns c =
-    let h = c .before in
-    let n = h .before in
-    let d = n .before in
-    let f = d .before .before in
-    let p = f .before .before in
-    let a = p .before .before .args in
-    let bs = a .bytes .now in
-    let z : List ℕ = 0 ∷ 0 ∷ 0 ∷ 0 ∷ [] in
-    let e = ap (parsedOf bs) (sym (f .frame .given .1)) ∙ p .parse .ensures in
-    let r = f .frame .given .0 in
-    let t = telegramOf (r .0) (dataAt bs (r .1 .0)) in
-    record {
-      answers = ap parsedNumber e;
-      lent =
-          c .description .ensures
-          ∙ ap (λ (x : List ℕ). x ++ little 4 (n .data-count .result) ++ little 4 (r .1 .1 .0) ++ z) (h .head-of .ensures (dataAt bs (r .1 .0)))
-          ∙ ap (λ (x : ℕ). headOf t ++ little 4 x ++ little 4 (r .1 .1 .0) ++ z) (n .data-count .ensures ∙ ap (λ (x : List ℕ). length (dataOf (telegramOf (r .0) x))) (d .data-of .ensures))
-          ∙ ap (describedIn (a .out .now)) e;
-    }
-
-returns-2 : tie.Need-returns-2
-returns-2 c =
-    let p = c .before .before in
-    let a = p .before .before .args in
-    let e = ap (parsedOf (a .bytes .now)) (sym (c .enum-told .given .1)) ∙ p .parse .ensures in
-    record { answers = ap parsedNumber e; lent = ap (describedIn (a .out .now)) e }
-
-returns-3 : tie.Need-returns-3
-returns-3 c =
-    let w = c .before .before in
-    let p = w .before .before in
-    let a = p .before .before .args in
-    let e = ap (parsedOf (a .bytes .now)) (sym (w .why .given .1)) ∙ p .parse .ensures in
-    record { answers = c .why-number .ensures ∙ ap parsedNumber e; lent = ap (describedIn (a .out .now)) e }
+returns c = c .parse .ensures
 
 pub frame-parse-spec : {M : Type 1} → statement M
-frame-parse-spec =
-    tie.close
-    (tie.spec
-    parse-requires
-    enum-known-frame
-    data-of-requires
-    data-count-requires
-    head-of-requires
-    description-requires
-    enum-told
-    enum-known-why
-    why-number-requires
-    returns
-    returns-2
-    returns-3)
+frame-parse-spec = tie.close (tie.spec parse-requires returns)

@@ -2,7 +2,7 @@
 use mathlib.Core.Path.{refl, sym, ap, _∙_}
 use native.Mathlib.Omega.{arith}
 use Rattle.scenarios.specs.Opening.{openList}
-use Rattle.scenarios.specs.Given.{refusalNumber, refusalIndex}
+use Rattle.refusals.specs.Refusals.{refusalNumber, refusalIndex}
 use Rattle.bus.specs.Calls.{afterOpening}
 use Rattle.image.specs.Image.{imaged}
 use Rattle.jezynar.proofs.ImageLaws.{opening-index, number-small, opening-answer, opening-stays}

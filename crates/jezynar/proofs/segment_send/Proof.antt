@@ -2,8 +2,9 @@
 use mathlib.Core.Path.{ap, sym, _∙_}
 use native.Mathlib.Omega.{arith}
 use Rattle.clock.specs.declared.Clock.{Clock}
-use Rattle.bus.specs.Calls as calls
-use Rattle.bus.specs.View.{plainOf, sentOf}
+use Rattle.bus.specs.View.{plainOf}
+use Rattle.send.specs.Send.{send}
+use Rattle.send.specs.View.{sentOf}
 use Rattle.jezynar.proofs.ImageLaws.{send-stays, refused-call, accepted-call}
 use borrow.Author.Needs.{needs}
 use Rattle.jezynar.proofs.segment_send.Statement.{statement}
@@ -30,7 +31,7 @@ returns c =
     let i = d .before in
     let s = i .before .before .before in
     let a = s .args in
-    refused-call (calls.send (a .piece .now) (clock-of s)) (a .image .now) (plainOf (i .read-image .result)) (sentOf (d .send .result)) (i .read-image .ensures) (d .send .ensures)
+    refused-call (send (a .piece .now) (clock-of s)) (a .image .now) (plainOf (i .read-image .result)) (sentOf (d .send .result)) (i .read-image .ensures) (d .send .ensures)
     (send-stays (a .piece .now) (clock-of s)) (n .sending-number .result) (n .sending-number .ensures) (omega (arith, c .if1 .taken))
 
 write-image-requires : tie.Need-write-image-requires
@@ -45,7 +46,7 @@ returns-2 c =
     let i = d .before in
     let s = i .before .before .before in
     let a = s .args in
-    accepted-call (calls.send (a .piece .now) (clock-of s)) (a .image .now) (plainOf (i .read-image .result)) (sentOf (d .send .result)) (i .read-image .ensures) (d .send .ensures)
+    accepted-call (send (a .piece .now) (clock-of s)) (a .image .now) (plainOf (i .read-image .result)) (sentOf (d .send .result)) (i .read-image .ensures) (d .send .ensures)
     _ (sym (e .if1 .left) ∙ n .sending-number .ensures) (c .write-image .ensures)
 
 pub segment-send-spec : {M : Type 1} → statement M

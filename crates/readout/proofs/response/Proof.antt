@@ -1,10 +1,8 @@
 use mathlib.Core.Path.{sym, ap, _∙_}
 use mathlib.Core.List.{[], _∷_}
 use borrow.Author.Tests.{eq-eqb, ne-eqb}
-use lib.Dec.{lit≤}
 use Rattle.frame.specs.Frame.{long, encode}
 use Rattle.readout.specs.Response.{error, response}
-use Rattle.readout.proofs.RecordLaws.{fits}
 use Rattle.readout.proofs.response.Statement.{statement}
 use Rattle.readout.proofs.response.Tie as tie
 
@@ -18,11 +16,8 @@ returns : tie.Need-returns
 unfolding response
 returns c = rw (eq-eqb _ _ (sym (c .before .before .error-code .ensures) ∙ c .before .if1 .taken)) (c .user-data .ensures)
 
-empty-requires : tie.Need-empty-requires
-empty-requires c κs = tt
-
-push-requires : tie.Need-push-requires
-push-requires c κs = tt
+error-data-requires : tie.Need-error-data-requires
+error-data-requires c κs = tt
 
 telegram-requires : tie.Need-telegram-requires
 telegram-requires c κs = tt
@@ -30,10 +25,10 @@ telegram-requires c κs = tt
 returns-2 : tie.Need-returns-2
 unfolding response
 returns-2 c =
-    let m = c .before .before .before .before .before .args .m in
-    let e = c .before .before .before .before .error-code .ensures in
-    rw (ne-eqb (error (m .fault) (m .readouts)) 0 (λ z. c .before .before .before .if1 .left (e ∙ z)))
-    (c .telegram .ensures ∙ ap (λ d. encode (long 0x08 (m .primary) 0x70 d)) (fits (c .before .before .empty .ensures) (c .before .push .ensures) (lit≤ tt) ∙ ap (λ x. x ∷ []) e))
+    let m = c .before .before .before .before .args .m in
+    let e = c .before .before .before .error-code .ensures in
+    rw (ne-eqb (error (m .fault) (m .readouts)) 0 (λ z. c .before .before .if1 .left (e ∙ z)))
+    (c .telegram .ensures ∙ ap (λ d. encode (long 0x08 (m .primary) 0x70 d)) (c .before .error-data .ensures ∙ ap (λ x. x ∷ []) e))
 
 pub response-spec : {M : Type 1} → statement M
 response-spec =
@@ -42,7 +37,6 @@ response-spec =
     error-code-requires
     user-data-requires
     returns
-    empty-requires
-    push-requires
+    error-data-requires
     telegram-requires
     returns-2)

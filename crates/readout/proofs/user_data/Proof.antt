@@ -2,7 +2,8 @@ use borrow.Author.Needs.{needs}
 use mathlib.Core.Path.{sym, ap, ap₂, _∙_}
 use mathlib.Core.List.{_++_}
 use Rattle.frame.specs.Frame.{long, encode}
-use Rattle.readout.specs.Response.{head, heatNow, electricity, water, userData}
+use Rattle.readout.specs.Response.{userData}
+use Rattle.userdata.specs.UserData.{head, heatNow, electricity, water}
 use Rattle.meter.specs.View.{plainMeter}
 use Rattle.readout.proofs.user_data.Statement.{statement}
 use Rattle.readout.proofs.user_data.Tie as tie

@@ -53,7 +53,7 @@ use Rattle.meter_list.specs.declared.Reader.{Reader}
 use Rattle.meter_list.specs.declared.Read.{Read}
 use Rattle.meter_list.specs.declared.Step.{Step}
 use Rattle.scenarios.proofs.GatherLaws.{stands-first, stands-next, gathered-first, gathered-next, gathered-is}
-use Rattle.scenarios.specs.declared.Refusal.the-variants.{Accepted}
+use Rattle.refusals.specs.declared.Refusal.the-variants.{Accepted}
 use Rattle.scenarios.specs.declared.Meters.{Meters}
 use Rattle.scenarios.proofs.Meters as AC
 use Rattle.scenarios.proofs.Meters.Laws as AC′

@@ -2,7 +2,7 @@
 use borrow.Author.Needs.{needs}
 use mathlib.Core.Path.{refl, sym, _∙_}
 use native.Mathlib.Omega.{arith}
-use Rattle.scenarios.specs.declared.Refusal.the-variants.{Version, Length}
+use Rattle.refusals.specs.declared.Refusal.the-variants.{Version, Length}
 use Rattle.scenarios.proofs.GivenLaws.{by-shape, given-refused, given-over, rate-kept, rate-good, rate-bad, given-records}
 use Rattle.scenarios.proofs.meters_of.Statement.{statement}
 use Rattle.scenarios.proofs.meters_of.Tie as tie

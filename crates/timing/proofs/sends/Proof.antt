@@ -4,7 +4,8 @@ use Prim.Native.Nat.{ℕ, _+_, _-_, _≤_}
 use native.Mathlib.Omega.{arith}
 use borrow.Author.Needs.{needs}
 use Rattle.bus.specs.Calls.{clear}
-use Rattle.bus.specs.View.{plainOf, sendingNumber, sentOf}
+use Rattle.bus.specs.View.{plainOf}
+use Rattle.send.specs.View.{sendingNumber, sentOf}
 use Rattle.timing.proofs.Turns.{accepted-small, Sends, sends-none, sends-more, sends-all}
 use Rattle.timing.proofs.sends.Statement.{statement}
 use Rattle.timing.proofs.sends.Tie as tie

@@ -1,5 +1,5 @@
 use mathlib.Core.Path.{sym, ap, _∙_}
-use Rattle.meter.specs.Meter.{asked}
+use Rattle.asking.specs.Asking.{asked}
 use Rattle.readout.specs.Response.{readout}
 use Rattle.hear.specs.Hear.{quiet, answers, request}
 use Rattle.hear.proofs.steps.request.Statement.{statement}

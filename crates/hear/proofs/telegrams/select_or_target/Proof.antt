@@ -1,5 +1,5 @@
 use mathlib.Core.Path.{sym, _∙_}
-use Rattle.hear.specs.Hear.{concerns}
+use Rattle.hear.specs.Concern.{concerns}
 use Rattle.hear.proofs.telegrams.select_or_target.Statement.{statement}
 use Rattle.hear.proofs.telegrams.select_or_target.Tie as tie
 

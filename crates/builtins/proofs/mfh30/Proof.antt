@@ -1,0 +1,12 @@
+-- `builtins::mfh30` meets its contract. Assumes nothing.
+use mathlib.Core.Path.{refl}
+use Rattle.builtins.specs.Builtins.{mfh30}
+use Rattle.builtins.proofs.mfh30.Statement.{statement}
+use Rattle.builtins.proofs.mfh30.Tie as tie
+
+returns : tie.Need-returns
+unfolding mfh30
+returns c = refl
+
+pub mfh30-spec : {M : Type 1} → statement M
+mfh30-spec = tie.close (tie.spec returns)

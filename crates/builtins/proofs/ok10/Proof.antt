@@ -1,0 +1,12 @@
+-- `builtins::ok10` meets its contract. Assumes nothing.
+use mathlib.Core.Path.{refl}
+use Rattle.builtins.specs.Builtins.{ok10}
+use Rattle.builtins.proofs.ok10.Statement.{statement}
+use Rattle.builtins.proofs.ok10.Tie as tie
+
+returns : tie.Need-returns
+unfolding ok10
+returns c = refl
+
+pub ok10-spec : {M : Type 1} → statement M
+ok10-spec = tie.close (tie.spec returns)

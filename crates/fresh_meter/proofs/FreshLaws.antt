@@ -1,0 +1,31 @@
+-- The program's fresh meter is the plain one: the id's nibbles are its digits.
+use mathlib.Core.Path.{_≡_, refl, ap₂}
+use mathlib.Core.Bool.{Bool}
+use mathlib.Core.List.{List, _∷_}
+use Prim.Native.Nat.{ℕ, _-_, _<_}
+use native.Mathlib.Omega.{arith}
+use Rattle.laws.specs.Words.{Every}
+use Rattle.identity.specs.Identity.{digitsOf}
+use Rattle.meter.specs.View.{plainMeter}
+use Rattle.meter_list.specs.Layout.{Listed}
+use Rattle.rules.specs.Check.{textDigits, check}
+use Rattle.fresh_meter.specs.Fresh.{seedOf, fresh}
+use Rattle.rules.specs.Checked.{inBase, valuesOf}
+use Rattle.fresh_meter.specs.FreshOf.{freshOf}
+use Rattle.rules.proofs.CheckLaws.{eight}
+use Rattle.fresh_meter.proofs.IdLaws.{EightDigits, goodId-digits, check-id}
+
+list-same : {x y : ℕ} {xs ys : List ℕ} → x ≡ y → xs ≡ ys → x ∷ xs ≡ y ∷ ys
+list-same p q = ap₂ (λ x xs. x ∷ xs) p q
+
+-- eight nibbles, taken out of their number again
+pub nibbles-back : (ds : List ℕ) → EightDigits ds → digitsOf (inBase 16 ds) ≡ ds
+unfolding digitsOf inBase
+nibbles-back ds (l, e) = eight (λ ds. Every (λ d. d < 10) ds → digitsOf (inBase 16 ds) ≡ ds)
+    (λ a b c d e f g h k.
+    list-same (omega arith) (list-same (omega arith) (list-same (omega arith) (list-same (omega arith) (list-same (omega arith) (list-same (omega arith) (list-same (omega arith) (list-same (omega arith) refl))))))))
+    ds l e
+
+pub fresh-plain : (bus : ℕ) (practice : Bool) (r : Listed) → check r ≡ 0 → plainMeter (freshOf bus practice (valuesOf r)) ≡ fresh bus practice r
+unfolding freshOf valuesOf fresh seedOf
+fresh-plain bus practice r h = rw (nibbles-back (textDigits (r .id)) (goodId-digits (r .id) (check-id r h)))

@@ -1,0 +1,18 @@
+-- `fresh_meter::fresh` meets its contract. Assumes nothing.
+use borrow.Author.Needs.{needs}
+use Rattle.fresh_meter.specs.FreshOf.{freshOf}
+use Rattle.fresh_meter.proofs.fresh.Statement.{statement}
+use Rattle.fresh_meter.proofs.fresh.Tie as tie
+
+own-baud-requires : tie.Need-own-baud-requires
+own-baud-requires c κs = search needs
+
+seed-of-requires : tie.Need-seed-of-requires
+seed-of-requires c κs = search needs
+
+returns : tie.Need-returns
+unfolding freshOf
+returns c = rw (c .before .own-baud .ensures, c .seed-of .ensures)
+
+pub fresh-spec : {M : Type 1} → statement M
+fresh-spec = tie.close (tie.spec own-baud-requires seed-of-requires returns)

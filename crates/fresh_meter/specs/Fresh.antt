@@ -1,0 +1,44 @@
+-- The meter of a record, as an opening begins with it.
+use mathlib.Core.Bool.{Bool, false, _&&_, not}
+use mathlib.Core.List.{List}
+use Prim.Native.Nat.{ℕ, _*_, _%_}
+use lib.Dec.{eqb}
+use Rattle.laws.specs.Words.{if_then_else_}
+use Rattle.identity.specs.Identity.{makerCode, decimal}
+use Rattle.meter.specs.PlainMeter.{PlainMeter}
+use Rattle.meter.specs.declared.LastFcb.the-variants.{Never}
+use Rattle.rules.specs.Tables.{media, faults, mediumOf, faultOf}
+use Rattle.meter_list.specs.Layout.{Listed}
+use Rattle.rules.specs.Check.{textDigits}
+
+-- own baud: "0 = the bus's at opening"; "with it, .. an own baud equal to the bus baud becomes 2400"
+unfoldable pub ownBaud : ℕ → Bool → ℕ → ℕ
+ownBaud bus practice own =
+    if eqb own 0 then bus else
+    if practice && eqb own bus then 2400 else
+    own
+
+-- "Without the flag, seed = (id as a decimal number mod 997) × 53; with it, seed 0"
+unfoldable pub seedOf : Bool → List ℕ → ℕ
+seedOf practice digits = if practice then 0 else decimal digits % 997 * 53
+
+-- "A fresh meter: access 0, not selected, part 0, no last FCB, readouts 0, and a flaky one misses its first telegram."
+unfoldable pub fresh : ℕ → Bool → Listed → PlainMeter
+fresh bus practice r =
+    record {
+      primary = r .primary;
+      digits = textDigits (r .id);
+      manufacturer = makerCode (r .manufacturer);
+      version = r .version;
+      medium = mediumOf media (r .medium) .code;
+      model = mediumOf media (r .medium) .model;
+      fault = faultOf faults (r .fault);
+      access = 0;
+      baud = ownBaud bus practice (r .baud);
+      selected = false;
+      part = 0;
+      last = Never;
+      readouts = 0;
+      seed = seedOf practice (textDigits (r .id));
+      hearsNext = false;
+    }

@@ -1,0 +1,33 @@
+-- The program's fresh meter, by the values of a record that passes.
+use mathlib.Core.Bool.{Bool, false}
+use Prim.Native.Nat.{ℕ, _*_, _%_}
+use Rattle.laws.specs.Words.{if_then_else_}
+use Rattle.meter.specs.declared.LastFcb.the-variants.{Never}
+use Rattle.meter.specs.declared.Meter.{Meter}
+use Rattle.rules.specs.declared.Values.{Values}
+use Rattle.fresh_meter.specs.Fresh.{ownBaud}
+
+-- the seed of an id's decimal number
+abbrev pub seedFrom : Bool → ℕ → ℕ
+seedFrom practice n = if practice then 0 else n % 997 * 53
+
+-- the program's fresh meter
+unfoldable pub freshOf : ℕ → Bool → Values → Meter
+freshOf bus practice v =
+    record {
+      primary = v .primary;
+      id = v .id;
+      manufacturer = v .manufacturer;
+      version = v .version;
+      medium = v .medium;
+      model = v .model;
+      fault = v .fault;
+      access = 0;
+      baud = ownBaud bus practice (v .baud);
+      selected = false;
+      part = 0;
+      last = Never;
+      readouts = 0;
+      seed = seedFrom practice (v .number);
+      hearing = false;
+    }

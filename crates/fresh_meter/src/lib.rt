@@ -1,0 +1,58 @@
+// The meter that an opening begins with for a record.
+ghost use mathlib.Core.Path.{_≡_};
+ghost use Rattle.fresh_meter.specs.Fresh.{ownBaud};
+ghost use Rattle.fresh_meter.specs.FreshOf.{seedFrom, freshOf};
+use meter::LastFcb;
+use meter::Meter;
+use rules::Values;
+
+// 0 is the bus's. With the practice flag one equal to the bus baud becomes 2400.
+fn own_baud(own: u32, bus: u32, practice: bool) -> u32
+    ensures { λ r. ⌜ r ≡ ownBaud bus practice own ⌝ }
+{
+    if own == 0 {
+        return bus;
+    }
+    if own == bus {
+        if practice {
+            return 2400;
+        }
+        return own;
+    }
+    own
+}
+
+// Readings differ from meter to meter, and are always the same for one id; with the practice flag all begin alike.
+fn seed_of(number: u32, practice: bool) -> u32
+    ensures { λ r. ⌜ r ≡ seedFrom practice number ⌝ }
+{
+    if practice {
+        return 0;
+    }
+    number % 997 * 53
+}
+
+// A fresh meter. A flaky one misses its first telegram.
+pub fn fresh(v: Values, bus: u32, practice: bool) -> Meter
+    ensures { λ r. ⌜ r ≡ freshOf bus practice v ⌝ }
+{
+    let model = v.model;
+    let fault = v.fault;
+    Meter {
+        primary: v.primary,
+        id: v.id,
+        manufacturer: v.manufacturer,
+        version: v.version,
+        medium: v.medium,
+        model: model,
+        fault: fault,
+        access: 0,
+        baud: own_baud(v.baud, bus, practice),
+        selected: false,
+        part: 0,
+        last: LastFcb::Never,
+        readouts: 0,
+        seed: seed_of(v.number, practice),
+        hearing: false,
+    }
+}

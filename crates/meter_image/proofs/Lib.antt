@@ -1,0 +1,2 @@
+pub mod MeterLaws
+pub mod Worked

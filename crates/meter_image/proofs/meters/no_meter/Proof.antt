@@ -1,0 +1,14 @@
+-- `meter_image::no_meter` meets its contract. Assumes nothing.
+use mathlib.Core.Path.{refl}
+use Rattle.identity.specs.Identity.{digitsOf}
+use Rattle.meter_image.specs.MeterBytes.{metered}
+use Rattle.numbers.specs.Number.{number}
+use Rattle.meter_image.proofs.meters.no_meter.Statement.{statement}
+use Rattle.meter_image.proofs.meters.no_meter.Tie as tie
+
+returns : tie.Need-returns
+unfolding digitsOf metered number
+returns c = refl
+
+pub no-meter-spec : {M : Type 1} → statement M
+no-meter-spec = tie.close (tie.spec returns)

@@ -1,0 +1,57 @@
+-- What the bytes of a meter mean: where each part of a meter lies, and what it says.
+use mathlib.Core.Bool.{Bool, not}
+use mathlib.Core.List.{List, [], _∷_}
+use Prim.Native.Nat.{ℕ}
+use lib.Dec.{eqb, ltb}
+use lib.ListN.{length, getD}
+use Rattle.laws.specs.Words.{if_then_else_, at}
+use Rattle.numbers.specs.Number.{number}
+use Rattle.meter.specs.PlainMeter.{PlainMeter}
+use Rattle.identity.specs.Identity.{digitsOf}
+use Rattle.meter.specs.declared.Fault.{Fault}
+use Rattle.meter.specs.declared.Fault.the-variants.{None, Checksum, Truncated, Busy, WrongAddress, Flaky, TooMany}
+use Rattle.meter.specs.declared.Model.{Model}
+use Rattle.meter.specs.declared.Model.the-variants.{Heat, Electricity, Water, Fixed}
+use Rattle.meter.specs.declared.LastFcb.{LastFcb}
+use Rattle.meter.specs.declared.LastFcb.the-variants.{Never, Clear, Set}
+
+-- 0 no, any other yes
+abbrev pub flagOf : ℕ → Bool
+flagOf b = not (eqb b 0)
+
+-- 0 Heat, 1 Electricity, 2 Water, any other Fixed
+abbrev pub modelOf : ℕ → Model
+modelOf b = getD (Heat ∷ Electricity ∷ Water ∷ []) b Fixed
+
+-- 0 None, 1 Checksum, 2 Truncated, 3 Busy, 4 WrongAddress, 5 Flaky, any other TooMany
+abbrev pub faultOf : ℕ → Fault
+faultOf b = getD (None ∷ Checksum ∷ Truncated ∷ Busy ∷ WrongAddress ∷ Flaky ∷ []) b TooMany
+
+-- 0 Never, 1 Clear, any other Set
+abbrev pub lastOf : ℕ → LastFcb
+lastOf b = getD (Never ∷ Clear ∷ []) b Set
+
+-- a meter by its 25 bytes
+unfoldable pub metered : List ℕ → PlainMeter
+metered bs =
+    record {
+      primary = at bs 0;
+      digits = digitsOf (number 4 1 bs);
+      manufacturer = number 2 5 bs;
+      version = at bs 7;
+      medium = at bs 8;
+      model = modelOf (at bs 9);
+      fault = faultOf (at bs 10);
+      access = at bs 11;
+      baud = number 4 12 bs;
+      selected = flagOf (at bs 16);
+      part = at bs 17;
+      last = lastOf (at bs 18);
+      readouts = at bs 19;
+      seed = number 4 20 bs;
+      hearsNext = flagOf (at bs 24);
+    }
+
+-- the bytes that a meter is read from; fewer than 25 count as none
+abbrev pub whole : List ℕ → List ℕ
+whole bs = if ltb (length bs) 25 then [] else bs

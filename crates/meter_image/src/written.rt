@@ -1,0 +1,15 @@
+// Numbers as bytes, low byte first.
+ghost use mathlib.Core.Path.{_≡_};
+ghost use Rattle.numbers.specs.Number.{number};
+
+pub(crate) fn two_bytes(v: u16) -> [u8; 2]
+    ensures { λ r. ⌜ number 2 0 r ≡ v ⌝ }
+{
+    values::le2(v as u64)
+}
+
+pub(crate) fn four_bytes(v: u32) -> [u8; 4]
+    ensures { λ r. ⌜ number 4 0 r ≡ v ⌝ }
+{
+    values::le4(v as u64)
+}

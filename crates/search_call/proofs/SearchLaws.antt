@@ -1,0 +1,185 @@
+-- A search on an image, from what the search by value gives.
+use mathlib.Core.Path.{_≡_, refl, sym, ap, subst, _∙_}
+use mathlib.Core.Bool.{Bool, _&&_, not}
+use mathlib.Core.List.{List, [], _∷_, _++_, append-nil, append-assoc}
+use Prim.Native.Nat.{ℕ, zero, suc, _+_, _*_, _/_, _≤_, _<_}
+use native.Mathlib.Omega.{arith}
+use native.Mathlib.Numerals.{add-one}
+use lib.Dec.{eqb, ltb}
+use lib.ListN.{length, take, drop, getD, replicate, length-append, length-replicate}
+use lib.Seq.{paste, take-at, take-suc, drop-drop, drop-append-add, length-take-le}
+use Rattle.laws.proofs.Lists.{if-all}
+use Rattle.laws.specs.Words.{at}
+use Rattle.values.specs.Values.{little}
+use Rattle.clock.specs.declared.Clock.{Clock}
+use Rattle.userdata.proofs.RecordLaws.{four-of}
+use Rattle.bus.specs.Plain.{Plain}
+use Rattle.clock.specs.Fields.{goodClock}
+use Rattle.bus.specs.View.{plainOf}
+use Rattle.bus.specs.declared.Segment.{Segment}
+use Rattle.search.specs.declared.EntryRecord.{EntryRecord}
+use Rattle.search.specs.declared.Core.{Core}
+use Rattle.search.specs.SearchCall.{Searched, searchCall}
+use Rattle.search.specs.View.{noEntry, numberOf, coreGives, Finds}
+use Rattle.image.specs.Image.{imaged}
+use Rattle.search_call.specs.Searches.{kindByte, entryBytes, rows, summaryOf, searchBy, Searches}
+
+-- ---- the summary
+
+-- the four elements of a list
+abbrev four : List ℕ → List ℕ
+four l = getD l 0 0 ∷ getD l 1 0 ∷ getD l 2 0 ∷ getD l 3 0 ∷ []
+
+-- three blocks of four bytes
+pub three-blocks : (a b c : List ℕ) → length a ≡ 4 → length b ≡ 4 → length c ≡ 4 → four a ++ four b ++ four c ≡ a ++ b ++ c
+three-blocks a b c h k m =
+    ap (λ (x : List ℕ). x ++ four b ++ four c) (four-of a h) ∙ ap (λ (x : List ℕ). a ++ x ++ four c) (four-of b k) ∙ ap (λ (x : List ℕ). a ++ b ++ x) (four-of c m)
+
+-- ---- entries, one behind the other
+
+length-entry : (e : EntryRecord) → length (entryBytes e) ≡ 16
+unfolding entryBytes little
+length-entry e = refl
+
+-- an entry, by its kind's number k and its count's bytes n
+abbrev row-of : EntryRecord → ℕ → List ℕ → List ℕ
+row-of e k n = let d = e .digits in k ∷ at d 0 ∷ at d 1 ∷ at d 2 ∷ at d 3 ∷ at d 4 ∷ at d 5 ∷ at d 6 ∷ at d 7 ∷ (n ++ 0 ∷ 0 ∷ 0 ∷ [])
+
+pub entry-is : (e : EntryRecord) (k : ℕ) (n : List ℕ) → k ≡ kindByte (e .kind) → length n ≡ 4 → n ≡ little 4 (e .count) → row-of e k (four n) ≡ entryBytes e
+unfolding entryBytes
+entry-is e k n h l w = ap (λ (j : ℕ). row-of e j (four n)) h ∙ ap (row-of e (kindByte (e .kind))) (four-of n l ∙ w)
+
+rows-append : (xs ys : List EntryRecord) → rows (xs ++ ys) ≡ rows xs ++ rows ys
+unfolding rows
+rows-append [] ys = refl
+rows-append (x ∷ xs) ys = ap (λ (r : List ℕ). entryBytes x ++ r) (rows-append xs ys) ∙ sym (append-assoc (entryBytes x) (rows xs) (rows ys))
+
+length-rows : (xs : List EntryRecord) → length (rows xs) ≡ 16 * length xs
+unfolding rows
+length-rows [] = refl
+length-rows (x ∷ xs) = length-append (entryBytes x) (rows xs) ∙ omega (arith, length-entry x, length-rows xs)
+
+rows-one : (e : EntryRecord) → rows (e ∷ []) ≡ entryBytes e
+unfolding rows
+rows-one e = append-nil (entryBytes e)
+
+rows-none : rows [] ≡ []
+unfolding rows
+rows-none = refl
+
+-- the bytes l₀ after i of the entries es were written in front
+pub record Rows (es : List EntryRecord) (l₀ : List ℕ) (i : ℕ) (l : List ℕ) : Type 0 where
+  pub is : l ≡ rows (take i es) ++ drop (16 * i) l₀
+
+pub rows-begin : {es : List EntryRecord} {l₀ : List ℕ} → Rows es l₀ 0 l₀
+unfolding rows
+rows-begin = record { is = refl }
+
+module _ {es : List EntryRecord} {l₀ l : List ℕ} {i : ℕ} (r : Rows es l₀ i l) where
+  pub rows-more : (b : List ℕ) (z : EntryRecord) → i < length es → b ≡ entryBytes (getD es i z) → Rows es l₀ (i + 1) (paste l (16 * i) b 16)
+  rows-more b z h w =
+      let front = rows (take i es) in
+      let m : length front ≡ 16 * i = length-rows (take i es) ∙ ap (λ (n : ℕ). 16 * n) (length-take-le i es (omega (arith, h))) in
+      let t : take (16 * i) l ≡ front = ap (take (16 * i)) (r .is) ∙ take-at front (drop (16 * i) l₀) (16 * i) m in
+      let b16 : length b ≡ 16 = ap length w ∙ length-entry (getD es i z) in
+      let k : take 16 b ≡ b = ap (λ (x : List ℕ). take 16 x) (sym (append-nil b)) ∙ take-at b [] 16 b16 in
+      let more : 16 * i + 16 ≡ 16 * (i + 1) = omega arith in
+      let q : drop (16 * i + 16) l ≡ drop (16 * (i + 1)) l₀ =
+      ap (drop (16 * i + 16)) (r .is)
+      ∙ ap (λ (n : ℕ). drop (n + 16) (front ++ drop (16 * i) l₀)) (sym m)
+      ∙ drop-append-add front (drop (16 * i) l₀) 16
+      ∙ drop-drop 16 (16 * i) l₀
+      ∙ ap (λ (n : ℕ). drop n l₀) more in
+      let n : rows (take (i + 1) es) ≡ front ++ b =
+      ap (λ (n : ℕ). rows (take n es)) (add-one i)
+      ∙ ap rows (take-suc es i z h)
+      ∙ rows-append (take i es) (getD es i z ∷ [])
+      ∙ ap (λ (x : List ℕ). front ++ x) (rows-one (getD es i z) ∙ sym w) in
+      record {
+        is =
+            ap (λ (x : List ℕ). x ++ take 16 b ++ drop (16 * i + 16) l) t
+            ∙ ap (λ (x : List ℕ). front ++ x ++ drop (16 * i + 16) l) k
+            ∙ ap (λ (x : List ℕ). front ++ b ++ x) q
+            ∙ ap (λ (x : List ℕ). x ++ drop (16 * (i + 1)) l₀) (sym n);
+      }
+
+-- ---- the search
+
+-- a refused search finds nothing and changes nothing
+abbrev Stays : Plain → Searched → Type 0
+Stays s r = 0 < r .number → (r .count ≡ 0) × (r .segment ≡ s)
+
+search-stays : (k : Clock) (allowance : ℕ) (lent : List EntryRecord) (s : Plain) → Stays s (searchCall k allowance lent s)
+unfolding searchCall
+search-stays k allowance lent s =
+    if-all (Stays s) (not (goodClock k)) _ _ (λ _. (refl, refl))
+    (if-all (Stays s) (not (eqb (length (s .input)) 0 && eqb (length (s .queue)) 0)) _ _ (λ _. (refl, refl))
+    (if-all (Stays s) (ltb (length lent) (length (s .meters))) _ _ (λ _. (refl, refl)) (λ h. absurd (omega (arith, h)))))
+
+module _ (k : Clock) (allowance : ℕ) (entries image : List ℕ) (s : Segment) (i : plainOf s ≡ imaged image) (r : Core) (f : Finds s k allowance (length entries / 16) r) where
+  abbrev lent : List EntryRecord
+  lent = replicate (length entries / 16) noEntry
+
+  abbrev want : Searched
+  want = searchBy k allowance entries (imaged image)
+
+  gives : coreGives r lent ≡ want
+  unfolding searchBy
+  gives = f .gives lent (length-replicate (length entries / 16) noEntry) ∙ ap (searchCall k allowance lent) i
+
+  number-gives : numberOf (r .outcome) ≡ want .number
+  unfolding coreGives
+  number-gives = ap (λ (x : Searched). x .number) gives
+
+  count-gives : r .count ≡ want .count
+  unfolding coreGives
+  count-gives = ap (λ (x : Searched). x .count) gives
+
+  probes-gives : r .probes ≡ want .probes
+  unfolding coreGives
+  probes-gives = ap (λ (x : Searched). x .probes) gives
+
+  spent-gives : r .spent ≡ want .spent
+  unfolding coreGives
+  spent-gives = ap (λ (x : Searched). x .spent) gives
+
+  segment-gives : plainOf (r .segment) ≡ want .segment
+  unfolding coreGives
+  segment-gives = ap (λ (x : Searched). x .segment) gives
+
+  lent-gives : take (r .count) (r .entries) ++ drop (r .count) lent ≡ want .lent
+  unfolding coreGives
+  lent-gives = ap (λ (x : Searched). x .lent) gives
+
+  pub search-refused : (n : ℕ) (summary : List ℕ) → n ≡ numberOf (r .outcome) → 0 < n → Searches want n image image entries entries summary summary
+  unfolding searchBy
+  search-refused n summary e h =
+      let m : n ≡ want .number = e ∙ number-gives in
+      let z = search-stays k allowance lent (imaged image) (subst (λ (x : ℕ). 0 < x) m h) in
+      record {
+        answer = m;
+        segment = sym (z .1);
+        written = ap (λ (x : List ℕ). x ++ entries) (sym rows-none) ∙ ap (λ (c : ℕ). rows (take c (want .lent)) ++ drop (16 * c) entries) (sym (z .0));
+        told = λ q. absurd (omega (arith, q, h));
+        image-kept = λ _. refl;
+        entries-kept = λ _. refl;
+        summary-kept = λ _. refl;
+      }
+
+  pub search-made : (image₁ entries₁ summary summary₁ : List ℕ) → 0 ≡ numberOf (r .outcome) → imaged image₁ ≡ plainOf (r .segment) → length (r .entries) ≡ 64
+      → entries₁ ≡ rows (take (r .count) (r .entries)) ++ drop (16 * r .count) entries
+      → summary₁ ≡ summaryOf (r .count) (r .probes) (r .spent)
+      → Searches want 0 image image₁ entries entries₁ summary summary₁
+  search-made image₁ entries₁ summary summary₁ e w l es su =
+      let t : take (want .count) (want .lent) ≡ take (r .count) (r .entries) =
+      ap (λ (c : ℕ). take c (want .lent)) (sym count-gives) ∙ ap (take (r .count)) (sym lent-gives)
+      ∙ take-at (take (r .count) (r .entries)) (drop (r .count) lent) (r .count) (length-take-le (r .count) (r .entries) (omega (arith, f .fits, l))) in
+      record {
+        answer = e ∙ number-gives;
+        segment = w ∙ segment-gives;
+        written = es ∙ ap (λ (x : List ℕ). x ++ drop (16 * r .count) entries) (ap rows (sym t)) ∙ ap (λ (c : ℕ). rows (take (want .count) (want .lent)) ++ drop (16 * c) entries) count-gives;
+        told = λ _. su ∙ ap (λ (c : ℕ). summaryOf c (r .probes) (r .spent)) count-gives ∙ ap (λ (c : ℕ). summaryOf (want .count) c (r .spent)) probes-gives ∙ ap (summaryOf (want .count) (want .probes)) spent-gives;
+        image-kept = λ h. absurd (omega (arith, h));
+        entries-kept = λ h. absurd (omega (arith, h));
+        summary-kept = λ h. absurd (omega (arith, h));
+      }

@@ -1,0 +1,61 @@
+// A search over an image, as numbers and bytes.
+ghost use mathlib.Core.Path.{_≡_};
+ghost use Rattle.search.specs.View;
+ghost use Rattle.image.specs.Image.{imaged};
+ghost use Rattle.search_call.specs.Searches.{searchBy, Searches};
+use clock::Clock;
+use image::IMAGE;
+
+mod entries; // entries.rt: the entries of a search and its summary, as bytes
+
+fn outcome_number(outcome: search::Outcome) -> u32
+    ensures { λ r. ⌜ r ≡ View.numberOf outcome ⌝ }
+{
+    match outcome {
+        search::Outcome::Made => 0,
+        search::Outcome::ClockOutOfRange => 14,
+        search::Outcome::NotEmpty => 16,
+        search::Outcome::TooFewLent => 17,
+    }
+}
+
+// Searches with an allowance of probes; 16 lent bytes for each entry.
+// 14: a clock field out of range; 16: input or queue not empty; 17: fewer entries lent than meters opened.
+pub fn search_image(
+    image: &mut [u8; IMAGE],
+    secs: f64,
+    year: u32,
+    month: u32,
+    day: u32,
+    hour: u32,
+    minute: u32,
+    allowance: u32,
+    entries: &mut [u8],
+    summary: &mut [u8; 12],
+) -> u32
+    ensures { λ r. ⌜ Searches (searchBy (record { now = secs; year = year; month = month; day = day; hour = hour; minute = minute }) allowance (now (entries .entry)) (imaged (now (image .entry)))) r (now (image .entry)) (now (image .exit)) (now (entries .entry)) (now (entries .exit)) (now (summary .entry)) (now (summary .exit)) ⌝ }
+{
+    let s = image::read_image(image);
+    let clock = Clock {
+        now: secs,
+        year: year,
+        month: month,
+        day: day,
+        hour: hour,
+        minute: minute,
+    };
+    let room = entries.len() / 16;
+    let core = search::search_core(s, clock, allowance, room);
+    let outcome = core.outcome;
+    let number = outcome_number(outcome);
+    if number != 0 {
+        return number;
+    }
+    let found = core.entries;
+    let count = core.count;
+    entries::put_entries(found, count, entries);
+    *summary = entries::summary_of(count, core.probes, core.spent);
+    let t = core.segment;
+    image::write_image(t, image);
+    0
+}

@@ -1,0 +1,9 @@
+pub mod BoundLaws
+pub mod HandleLaws
+pub mod RepliesLaws
+pub mod SendLaws
+pub mod SentLaws
+pub mod SettleLaws
+pub mod Slips
+pub mod StayLaws
+pub mod SweepLaws

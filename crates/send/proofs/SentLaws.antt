@@ -1,0 +1,39 @@
+-- Send, refusal by refusal, from what its parts did.
+use mathlib.Core.Path.{_≡_, sym, ap, _∙_}
+use mathlib.Core.Bool.{Bool, true, false, not}
+use mathlib.Core.List.{List, _++_}
+use Prim.Native.Nat.{ℕ, _≤_, _<_, min}
+use borrow.Author.Tests.{lt-ltb, le-ltb, not-true, not-false}
+use lib.ListN.{length, take}
+use Rattle.laws.proofs.Copy.{take-min}
+use Rattle.clock.specs.declared.Clock.{Clock}
+use Rattle.clock.specs.Fields.{goodClock}
+use Rattle.bus.specs.declared.Segment.{Segment}
+use Rattle.bus.specs.Plain.{Plain, withInput}
+use Rattle.bus.specs.Calls.{refused}
+use Rattle.bus.specs.View.{plainOf}
+use Rattle.send.specs.Steps.{settled}
+use Rattle.send.specs.Send.{fitsQueue, send}
+
+module _ (piece : List ℕ) (k : Clock) (s : Plain) where
+  pub send-long : 1024 < length piece → refused 13 s ≡ send piece k s
+  unfolding send
+  send-long h = sym (rw (lt-ltb 1024 (length piece) h))
+
+  module _ (short : length piece ≤ 1024) {good : Bool} (g : good ≡ goodClock k) where
+    pub send-clock : not good ≡ true → refused 14 s ≡ send piece k s
+    unfolding send
+    send-clock h = sym (rw (le-ltb 1024 (length piece) short, sym g, not-true good h))
+
+    module _ (h : not good ≡ false) where
+      steps-taken : send piece k s ≡ fitsQueue s (settled k (withInput (s .input ++ piece) s))
+      unfolding send
+      steps-taken = rw (le-ltb 1024 (length piece) short, sym g, not-false good h)
+
+      pub send-settles : {bytes : List ℕ} → bytes ≡ s .input ++ piece → fitsQueue s (settled k (withInput bytes s)) ≡ send piece k s
+      send-settles b = ap (λ x. fitsQueue s (settled k (withInput x s))) b ∙ sym steps-taken
+
+-- the line holds what waits and the piece
+pub line-is : (s : Segment) (n : ℕ) (piece l : List ℕ) → n ≡ min (s .waiting) 260 → length (s .input) ≡ 260 → l ≡ take n (s .input) ++ piece → l ≡ plainOf s .input ++ piece
+unfolding plainOf
+line-is s n piece l e long h = h ∙ ap (λ x. x ++ piece) (ap (λ m. take m (s .input)) (e ∙ ap (min (s .waiting)) (sym long)) ∙ take-min (s .waiting) (s .input))

@@ -1,0 +1,4 @@
+pub mod OneMeter
+pub mod Send
+pub mod Steps
+pub mod View

@@ -1,0 +1,44 @@
+-- Telegrams and numbers as bytes.
+use mathlib.Core.Path.{_≡_, refl, ap, _∙_}
+use mathlib.Core.List.{List, [], _∷_, _++_}
+use Prim.Native.Nat.{ℕ, _+_, _≤_}
+use native.Mathlib.Omega.{arith}
+use lib.Dec.{ltb}
+use lib.ListN.{length, getD, length-append}
+use borrow.Author.Tests.{ltb-false}
+use Rattle.laws.proofs.Lists.{if-all, if-with}
+use Rattle.frame.specs.Frame.{Telegram, ack, short, long, encode, dataOf}
+use Rattle.telegram_writer.specs.Writer.{Written, write}
+
+-- the four elements of a list
+abbrev four : List ℕ → List ℕ
+four l = getD l 0 0 ∷ getD l 1 0 ∷ getD l 2 0 ∷ getD l 3 0 ∷ []
+
+four-of : (l : List ℕ) → length l ≡ 4 → four l ≡ l
+four-of [] h = absurd (omega (arith, h))
+four-of (a ∷ []) h = absurd (omega (arith, h))
+four-of (a ∷ b ∷ []) h = absurd (omega (arith, h))
+four-of (a ∷ b ∷ c ∷ []) h = absurd (omega (arith, h))
+four-of (a ∷ b ∷ c ∷ d ∷ []) h = refl
+four-of (a ∷ b ∷ c ∷ d ∷ e ∷ l) h = absurd (omega (arith, h))
+
+-- three blocks of four bytes, and what lies behind them
+pub blocks-before : (a b c : List ℕ) → length a ≡ 4 → length b ≡ 4 → length c ≡ 4 → (z : List ℕ) → four a ++ four b ++ four c ++ z ≡ a ++ b ++ c ++ z
+blocks-before a b c h k m z =
+    ap (λ (x : List ℕ). x ++ four b ++ four c ++ z) (four-of a h) ∙ ap (λ (x : List ℕ). a ++ x ++ four c ++ z) (four-of b k) ∙ ap (λ (x : List ℕ). a ++ b ++ x ++ z) (four-of c m)
+
+-- a telegram with data of at most 252 bytes has at most 261
+encoded-most : (t : Telegram) → length (dataOf t) ≤ 252 → length (encode t) ≤ 261
+unfolding encode
+encoded-most ack h = omega arith
+encoded-most (short c a) h = omega arith
+encoded-most (long c a ci d) h = rw (length-append d (_ ∷ 0x16 ∷ [])) (omega (arith, h))
+
+abbrev pub Most : Written → Type 0
+Most w = w .count ≤ 261
+
+pub written-most : (t : Telegram) (lent : List ℕ) → Most (write t lent)
+unfolding write
+written-most t lent =
+    if-with Most (ltb 252 (length (dataOf t))) _ _ (λ _. omega arith)
+    (λ h. if-all Most (ltb (length lent) (length (encode t))) _ _ (omega arith) (encoded-most t (ltb-false 252 (length (dataOf t)) h)))

@@ -1,0 +1,3 @@
+pub mod Theorems
+pub mod View
+pub mod Writer
