@@ -19,7 +19,7 @@ use Rattle.send.specs.View.{sendingNumber}
 use Rattle.send.proofs.Sent.Laws.{lowered as sent-value}
 use Rattle.search.specs.declared.EntryRecord.{EntryRecord}
 use Rattle.search.specs.declared.Searched.{Searched}
-use Rattle.search.specs.View.{numberOf}
+use Rattle.search.specs.View.{outcomeNumber}
 use Rattle.search.proofs.EntryRecord.Laws.{mir as record-ty, lowered as record-value}
 use Rattle.search.proofs.Searched.Laws.{lowered as searched-value}
 use Rattle.search.specs.Call.{Call, opening, sending, receiving, clearing, changing, searching}
@@ -42,7 +42,7 @@ Reads (receiving lent) r b σ a = (x : Received) × (bs : List ℕ) × (r ≡ re
 Reads clearing r b σ a = a ≡ cleared
 Reads (changing baud) r b σ a = (x : Changed) × (r ≡ changed-value x) × (a ≡ changed (changingNumber (x .answer)))
 Reads (searching k allowance lent) r b σ a =
-    (x : Searched) × (es : List EntryRecord) × (r ≡ searched-value x) × RecordsIn σ b es × (a ≡ searched (numberOf (x .outcome)) (x .count) (x .probes) (x .spent) es)
+    (x : Searched) × (es : List EntryRecord) × (r ≡ searched-value x) × RecordsIn σ b es × (a ≡ searched (outcomeNumber (x .outcome)) (x .count) (x .probes) (x .spent) es)
 
 -- the answers of a list of calls that the machine made, one for each
 abbrev pub Answered : {cs : List Call} {s t : Val} {σ σ′ : Memory} → Made cs s σ t σ′ → List Answer → Type 0

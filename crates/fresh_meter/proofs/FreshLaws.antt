@@ -1,17 +1,19 @@
 -- The program's fresh meter is the plain one: the id's nibbles are its digits.
 use mathlib.Core.Path.{_≡_, refl, ap₂}
-use mathlib.Core.Bool.{Bool}
+use mathlib.Core.Bool.{Bool, true, false}
+use lib.Dec.{eqb}
 use mathlib.Core.List.{List, _∷_}
 use Prim.Native.Nat.{ℕ, _-_, _<_}
 use native.Mathlib.Omega.{arith}
-use Rattle.laws.specs.Words.{Every}
-use Rattle.identity.specs.Identity.{digitsOf}
+use Rattle.laws.specs.Words.{if_then_else_, Every}
+use Rattle.identity.specs.Identity.{inBase, digitsOf}
 use Rattle.meter.specs.View.{plainMeter}
 use Rattle.meter_list.specs.Layout.{Listed}
 use Rattle.rules.specs.Check.{textDigits, check}
-use Rattle.fresh_meter.specs.Fresh.{seedOf, fresh}
-use Rattle.rules.specs.Checked.{inBase, valuesOf}
-use Rattle.fresh_meter.specs.FreshOf.{freshOf}
+use Rattle.rules.specs.declared.OwnBaud.the-variants.{AsBus, Own}
+use Rattle.fresh_meter.specs.Fresh.{otherThanBus, ownBaud, seedOf, fresh}
+use Rattle.rules.specs.Checked.{ownOf, valuesOf}
+use Rattle.fresh_meter.specs.FreshOf.{baudFrom, freshOf}
 use Rattle.rules.proofs.CheckLaws.{eight}
 use Rattle.fresh_meter.proofs.IdLaws.{EightDigits, goodId-digits, check-id}
 
@@ -26,6 +28,15 @@ nibbles-back ds (l, e) = eight (λ ds. Every (λ d. d < 10) ds → digitsOf (inB
     list-same (omega arith) (list-same (omega arith) (list-same (omega arith) (list-same (omega arith) (list-same (omega arith) (list-same (omega arith) (list-same (omega arith) (list-same (omega arith) refl))))))))
     ds l e
 
+-- the own baud that a record's number stands for
+pub baud-from : (bus : ℕ) (practice : Bool) (own : ℕ) → baudFrom bus practice (ownOf own) ≡ ownBaud bus practice own
+unfolding ownBaud
+baud-from bus practice own = go (eqb own 0)
+  where
+    go : (zero : Bool) → baudFrom bus practice (if zero then AsBus else Own own) ≡ (if zero then bus else otherThanBus bus practice own)
+    go true = refl
+    go false = refl
+
 pub fresh-plain : (bus : ℕ) (practice : Bool) (r : Listed) → check r ≡ 0 → plainMeter (freshOf bus practice (valuesOf r)) ≡ fresh bus practice r
 unfolding freshOf valuesOf fresh seedOf
-fresh-plain bus practice r h = rw (nibbles-back (textDigits (r .id)) (goodId-digits (r .id) (check-id r h)))
+fresh-plain bus practice r h = rw (nibbles-back (textDigits (r .id)) (goodId-digits (r .id) (check-id r h)), baud-from bus practice (r .baud))

@@ -12,21 +12,21 @@ use Rattle.laws.proofs.Lists.{and-l, and-r}
 use Rattle.meter.specs.Meter.{rates}
 use Rattle.rules.specs.Tables.{media, faults, isMedium, isFault, isRate}
 use Rattle.meter_list.specs.Layout.{Listed}
-use Rattle.rules.specs.Check.{within, textDigits, goodId, goodMaker, check}
+use Rattle.rules.specs.Check.{allWithin, textDigits, goodId, goodMaker, check}
 
 -- eight digits, each below ten
 abbrev pub EightDigits : List ℕ → Type 0
 EightDigits ds = (length ds ≡ 8) × Every (λ d. d < 10) ds
 
-within-digits : (t : List ℕ) → within 0x30 0x39 t ≡ true → Every (λ d. d < 10) (textDigits t)
+within-digits : (t : List ℕ) → allWithin 0x30 0x39 t ≡ true → Every (λ d. d < 10) (textDigits t)
 within-digits [] h = tt
 within-digits (c ∷ t) h =
-    let here = and-l (leb 0x30 c && leb c 0x39) (within 0x30 0x39 t) h in
-    (omega (arith, leb-true c 0x39 (and-r (leb 0x30 c) (leb c 0x39) here)), within-digits t (and-r (leb 0x30 c && leb c 0x39) (within 0x30 0x39 t) h))
+    let here = and-l (leb 0x30 c && leb c 0x39) (allWithin 0x30 0x39 t) h in
+    (omega (arith, leb-true c 0x39 (and-r (leb 0x30 c) (leb c 0x39) here)), within-digits t (and-r (leb 0x30 c && leb c 0x39) (allWithin 0x30 0x39 t) h))
 
 pub goodId-digits : (t : List ℕ) → goodId t ≡ true → EightDigits (textDigits t)
 unfolding goodId
-goodId-digits t h = (length-map t (λ c. c - 0x30) ∙ eqb-true (length t) 8 (and-l (eqb (length t) 8) (within 0x30 0x39 t) h), within-digits t (and-r (eqb (length t) 8) (within 0x30 0x39 t) h))
+goodId-digits t h = (length-map t (λ c. c - 0x30) ∙ eqb-true (length t) 8 (and-l (eqb (length t) 8) (allWithin 0x30 0x39 t) h), within-digits t (and-r (eqb (length t) 8) (allWithin 0x30 0x39 t) h))
 
 -- a record that passes has a good id
 pub check-id : (r : Listed) → check r ≡ 0 → goodId (r .id) ≡ true

@@ -11,12 +11,13 @@ use Rattle.rules.specs.Tables.{media, faults, mediumOf, faultOf}
 use Rattle.meter_list.specs.Layout.{Listed}
 use Rattle.rules.specs.Check.{textDigits}
 
--- own baud: "0 = the bus's at opening"; "with it, .. an own baud equal to the bus baud becomes 2400"
+-- "with it, .. an own baud equal to the bus baud becomes 2400"
+unfoldable pub otherThanBus : ℕ → Bool → ℕ → ℕ
+otherThanBus bus practice own = if practice && eqb own bus then 2400 else own
+
+-- own baud: "0 = the bus's at opening"
 unfoldable pub ownBaud : ℕ → Bool → ℕ → ℕ
-ownBaud bus practice own =
-    if eqb own 0 then bus else
-    if practice && eqb own bus then 2400 else
-    own
+ownBaud bus practice own = if eqb own 0 then bus else otherThanBus bus practice own
 
 -- "Without the flag, seed = (id as a decimal number mod 997) × 53; with it, seed 0"
 unfoldable pub seedOf : Bool → List ℕ → ℕ

@@ -4,8 +4,15 @@ use Prim.Native.Nat.{ℕ, _*_, _%_}
 use Rattle.laws.specs.Words.{if_then_else_}
 use Rattle.meter.specs.declared.LastFcb.the-variants.{Never}
 use Rattle.meter.specs.declared.Meter.{Meter}
+use Rattle.rules.specs.declared.OwnBaud.{OwnBaud}
+use Rattle.rules.specs.declared.OwnBaud.the-variants.{AsBus, Own}
 use Rattle.rules.specs.declared.Values.{Values}
-use Rattle.fresh_meter.specs.Fresh.{ownBaud}
+use Rattle.fresh_meter.specs.Fresh.{otherThanBus}
+
+-- the baud of a fresh meter, by its record's own
+abbrev pub baudFrom : ℕ → Bool → OwnBaud → ℕ
+baudFrom bus practice AsBus = bus
+baudFrom bus practice (Own own) = otherThanBus bus practice own
 
 -- the seed of an id's decimal number
 abbrev pub seedFrom : Bool → ℕ → ℕ
@@ -23,7 +30,7 @@ freshOf bus practice v =
       model = v .model;
       fault = v .fault;
       access = 0;
-      baud = ownBaud bus practice (v .baud);
+      baud = baudFrom bus practice (v .baud);
       selected = false;
       part = 0;
       last = Never;

@@ -1,18 +1,16 @@
 // The meter that an opening begins with for a record.
 ghost use mathlib.Core.Path.{_≡_};
-ghost use Rattle.fresh_meter.specs.Fresh.{ownBaud};
-ghost use Rattle.fresh_meter.specs.FreshOf.{seedFrom, freshOf};
+ghost use Rattle.fresh_meter.specs.Fresh.{otherThanBus};
+ghost use Rattle.fresh_meter.specs.FreshOf.{baudFrom, seedFrom, freshOf};
 use meter::LastFcb;
 use meter::Meter;
+use rules::OwnBaud;
 use rules::Values;
 
-// 0 is the bus's. With the practice flag one equal to the bus baud becomes 2400.
-fn own_baud(own: u32, bus: u32, practice: bool) -> u32
-    ensures { λ r. ⌜ r ≡ ownBaud bus practice own ⌝ }
+// One of its own that equals the bus baud becomes 2400 with the practice flag.
+fn other_than_bus(own: u32, bus: u32, practice: bool) -> u32
+    ensures { λ r. ⌜ r ≡ otherThanBus bus practice own ⌝ }
 {
-    if own == 0 {
-        return bus;
-    }
     if own == bus {
         if practice {
             return 2400;
@@ -20,6 +18,15 @@ fn own_baud(own: u32, bus: u32, practice: bool) -> u32
         return own;
     }
     own
+}
+
+fn baud_of(own: OwnBaud, bus: u32, practice: bool) -> u32
+    ensures { λ r. ⌜ r ≡ baudFrom bus practice own ⌝ }
+{
+    match own {
+        OwnBaud::AsBus => bus,
+        OwnBaud::Own(baud) => other_than_bus(baud, bus, practice),
+    }
 }
 
 // Readings differ from meter to meter, and are always the same for one id; with the practice flag all begin alike.
@@ -38,6 +45,7 @@ pub fn fresh(v: Values, bus: u32, practice: bool) -> Meter
 {
     let model = v.model;
     let fault = v.fault;
+    let own = v.baud;
     Meter {
         primary: v.primary,
         id: v.id,
@@ -47,7 +55,7 @@ pub fn fresh(v: Values, bus: u32, practice: bool) -> Meter
         model: model,
         fault: fault,
         access: 0,
-        baud: own_baud(v.baud, bus, practice),
+        baud: baud_of(own, bus, practice),
         selected: false,
         part: 0,
         last: LastFcb::Never,

@@ -5,6 +5,7 @@ use Prim.Native.Nat.{ℕ, _+_, _-_, _*_, _/_, _%_}
 use lib.Dec.{leb}
 use lib.ListN.{take}
 use Rattle.laws.specs.Words.{if_then_else_, at}
+use Rattle.laws.specs.Sweep.{fold}
 
 -- a small letter as its capital, every other byte as it is
 abbrev pub capital : ℕ → ℕ
@@ -27,13 +28,13 @@ unfoldable pub nibbles : List ℕ → List ℕ
 nibbles bs =
     at bs 3 / 16 ∷ at bs 3 % 16 ∷ at bs 2 / 16 ∷ at bs 2 % 16 ∷ at bs 1 / 16 ∷ at bs 1 % 16 ∷ at bs 0 / 16 ∷ at bs 0 % 16 ∷ []
 
--- digits as a decimal number, most significant first
-unfoldable pub decimal : List ℕ → ℕ
-decimal ds = go 0 ds
-  where
-    go : ℕ → List ℕ → ℕ
-    go n [] = n
-    go n (d ∷ ds) = go (n * 10 + d) ds
+-- digits as a number in a base, most significant first
+unfoldable pub inBase : ℕ → List ℕ → ℕ
+inBase b ds = fold (λ (n : ℕ) (d : ℕ). n * b + d) 0 ds
+
+-- digits as a decimal number
+abbrev pub decimal : List ℕ → ℕ
+decimal ds = inBase 10 ds
 
 -- the id's digits are its BCD nibbles, most significant first
 unfoldable pub digitsOf : ℕ → List ℕ

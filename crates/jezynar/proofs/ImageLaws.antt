@@ -15,7 +15,7 @@ use Rattle.meter.specs.Meter.{rates}
 use Rattle.rules.specs.Tables.{isRate}
 use Rattle.meter_list.specs.Layout.{Listed, Layout, fits, noFit, readRecords}
 use Rattle.rules.specs.Check.{allPass}
-use Rattle.scenarios.specs.Opening.{capacity, Opened, opens, refuses, refusesRecord, OpeningGives, openRecords, openList}
+use Rattle.scenarios.specs.Opening.{mostMeters, capacity, Opened, opens, refuses, refusesRecord, OpeningGives, openRecords, openList}
 use Rattle.refusals.specs.Refusals.{refusalNumber}
 use Rattle.refusals.specs.declared.Refusal.{Refusal}
 use Rattle.refusals.specs.declared.Refusal.the-variants.{Accepted, Version, Length, Capacity, AtRecord, Baud}
@@ -29,7 +29,7 @@ use Rattle.send.specs.Steps.{settled}
 use Rattle.send.specs.Send.{send}
 use Rattle.clock.specs.Fields.{goodClock}
 use Rattle.image.specs.Image.{imaged}
-use Rattle.jezynar.specs.Answers.{doneBy, receivedBy, Answers}
+use Rattle.jezynar.specs.Answers.{doneBy, receivedBy, DoneImage}
 
 -- ---- a refused call changes nothing
 
@@ -49,7 +49,7 @@ baud-stays b s = if-all (Stays s) (isRate rates b) _ _ (λ h. absurd (omega (ari
 
 -- p is what the image meant before, d what the call by value gave
 module _ (call : Plain → Done) (before : List ℕ) (p : Plain) (d : Done) (i : p ≡ imaged before) (e : d ≡ call p) where
-  pub refused-call : ((s : Plain) → Stays s (call s)) → (n : ℕ) → n ≡ d .number → 0 < n → Answers (call (imaged before)) n before before
+  pub refused-call : ((s : Plain) → Stays s (call s)) → (n : ℕ) → n ≡ d .number → 0 < n → DoneImage (call (imaged before)) n before before
   unfolding doneBy
   refused-call stays n m h =
       let s : d .segment ≡ p = ap (λ (x : Done). x .segment) e ∙ stays p (subst (λ (x : ℕ). 0 < x) (m ∙ ap (λ (x : Done). x .number) e) h) in
@@ -58,7 +58,7 @@ module _ (call : Plain → Done) (before : List ℕ) (p : Plain) (d : Done) (i :
         kept = λ _. refl;
       }
 
-  pub accepted-call : (after : List ℕ) → 0 ≡ d .number → imaged after ≡ d .segment → Answers (call (imaged before)) 0 before after
+  pub accepted-call : (after : List ℕ) → 0 ≡ d .number → imaged after ≡ d .segment → DoneImage (call (imaged before)) 0 before after
   unfolding doneBy
   accepted-call after m s =
       record {
@@ -76,17 +76,17 @@ received-call before after lent lent₁ n p q i e w = ap (λ (x : Plain). record
 abbrev Short : Opened → Type 0
 Short (opens ms) = Unit {0}
 Short (refuses n) = Unit {0}
-Short (refusesRecord rs) = length rs ≤ 64
+Short (refusesRecord rs) = length rs ≤ mostMeters
 
 records-short : (bus : ℕ) (practice : Bool) (l : Layout) → Short (openRecords bus practice l)
 unfolding openRecords capacity
 records-short bus practice noFit = tt
 records-short bus practice (fits rs) =
-    if-with Short (ltb 64 (length rs)) _ _ (λ _. tt)
+    if-with Short (ltb mostMeters (length rs)) _ _ (λ _. tt)
     (λ h. if-all Short (not (allPass rs)) _ _ (leb-of h) (if-all Short (not (isRate rates bus)) _ _ tt tt))
   where
-    leb-of : ltb 64 (length rs) ≡ false → length rs ≤ 64
-    leb-of h = ltb-false 64 (length rs) h
+    leb-of : ltb mostMeters (length rs) ≡ false → length rs ≤ mostMeters
+    leb-of h = ltb-false mostMeters (length rs) h
 
 list-short : (bs : List ℕ) (bus : ℕ) (practice : Bool) → Short (openList bs bus practice)
 unfolding openList
@@ -94,14 +94,14 @@ list-short bs bus practice =
     if-all Short (ltb (length bs) 3 || not (eqb (at bs 0) 1)) _ _ tt
     (if-all Short (not (eqb (at bs 1 * 256 + at bs 2) (length bs - 3))) _ _ tt (records-short bus practice (readRecords (length bs) (drop 3 bs))))
 
-index-in : (o : Opened) → Short o → (n i : ℕ) → OpeningGives o n i → i < 64
+index-in : (o : Opened) → Short o → (n i : ℕ) → OpeningGives o n i → i < mostMeters
 index-in (opens ms) h n i g = omega (arith, g .1)
 index-in (refuses m) h n i g = omega (arith, g .1)
 index-in (refusesRecord rs) h n i g =
     let e : length rs ≡ length (g .1) + suc (length (g .2)) = ap length (g .3) ∙ length-append (g .1) (g .0 ∷ g .2) in
     omega (arith, h, e, g .4)
 
-pub opening-index : (list : List ℕ) (bus : ℕ) (practice : Bool) (n i : ℕ) → OpeningGives (openList list bus practice) n i → i < 64
+pub opening-index : (list : List ℕ) (bus : ℕ) (practice : Bool) (n i : ℕ) → OpeningGives (openList list bus practice) n i → i < mostMeters
 opening-index list bus practice n i g = index-in (openList list bus practice) (list-short list bus practice) n i g
 
 failing-small : (f : Failing) → failNumber f < 256

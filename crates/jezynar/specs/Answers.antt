@@ -13,12 +13,12 @@ unfoldable pub doneBy : ℕ → List ℕ → calls.Done
 doneBy n image = record { number = n; segment = imaged image }
 
 -- the answer is the number of `want`, the image means its segment; where the number is not 0, every byte of the image stays
-pub record Answers (want : calls.Done) (number : ℕ) (before after : List ℕ) : Type 0 where
+pub record DoneImage (want : calls.Done) (number : ℕ) (before after : List ℕ) : Type 0 where
   pub answer : doneBy number after ≡ want
   pub kept : 0 < number → after ≡ before
 
 -- the answer is number + 256 * index, ones that 01 allows; the image means the segment afterwards; where the answer is not 0, every byte of the image stays
-pub record Opens (list : List ℕ) (bus : ℕ) (practice : Bool) (origin : Float) (answer : ℕ) (before after : List ℕ) : Type 0 where
+pub record OpenedImage (list : List ℕ) (bus : ℕ) (practice : Bool) (origin : Float) (answer : ℕ) (before after : List ℕ) : Type 0 where
   pub gives : OpeningGives (openList list bus practice) (answer % 256) (answer / 256)
   pub segment : imaged after ≡ calls.afterOpening list bus practice origin (imaged before)
   pub kept : 0 < answer → after ≡ before

@@ -4,13 +4,14 @@ ghost use Prim.Native.Nat.{_+_, _*_, _<_};
 ghost use Rattle.frame.specs.Frame;
 ghost use Rattle.telegram_writer.specs.Writer.{write};
 ghost use Rattle.refusals.specs.Refusals.{refusalNumber, refusalIndex};
+ghost use Rattle.scenarios.specs.Opening.{mostMeters};
 ghost use Rattle.bus.specs.Plain.{blank};
 ghost use Rattle.bus.specs.Calls;
 ghost use Rattle.bus.specs.View.{changingNumber};
 ghost use Rattle.send.specs.Send;
 ghost use Rattle.send.specs.View.{sendingNumber};
 ghost use Rattle.image.specs.Image.{imaged, imageLen};
-ghost use Rattle.jezynar.specs.Answers.{Answers, Opens, receivedBy};
+ghost use Rattle.jezynar.specs.Answers.{DoneImage, OpenedImage, receivedBy};
 ghost use Rattle.search_call.specs.Searches.{searchBy, Searches};
 ghost use Rattle.telegram_calls.specs.Telegrams.{Parses, telegramBy, Writes};
 use bus::Changing;
@@ -35,8 +36,8 @@ pub extern "C" fn segment_image_len() -> usize
 pub extern "C" fn segment_new(image: &mut [u8; IMAGE])
     ensures { λ _. ⌜ imaged (now (image .exit)) ≡ blank ⌝ }
 {
-    let s = Segment::new();
-    image::write_image(s, image);
+    let fresh = Segment::new();
+    image::write_image(fresh, image);
 }
 
 // Empties the queue alone.
@@ -45,8 +46,8 @@ pub extern "C" fn segment_clear(image: &mut [u8; IMAGE])
     ensures { λ _. ⌜ imaged (now (image .exit)) ≡ Calls.clear (imaged (now (image .entry))) ⌝ }
 {
     let s = image::read_image(image);
-    let t = bus::clear(s);
-    image::write_image(t, image);
+    let cleared = bus::clear(s);
+    image::write_image(cleared, image);
 }
 
 fn changing_number(answer: Changing) -> u32
@@ -61,7 +62,7 @@ fn changing_number(answer: Changing) -> u32
 // Sets the bus baud and empties the input. 10: no rate.
 #[no_mangle]
 pub extern "C" fn segment_set_baud(image: &mut [u8; IMAGE], baud: u32) -> u32
-    ensures { λ r. ⌜ Answers (Calls.changeBaud baud (imaged (now (image .entry)))) r (now (image .entry)) (now (image .exit)) ⌝ }
+    ensures { λ r. ⌜ DoneImage (Calls.changeBaud baud (imaged (now (image .entry)))) r (now (image .entry)) (now (image .exit)) ⌝ }
 {
     let s = image::read_image(image);
     let done = bus::set_baud(s, baud);
@@ -77,7 +78,7 @@ pub extern "C" fn segment_set_baud(image: &mut [u8; IMAGE], baud: u32) -> u32
 
 // number + 256 * index
 fn packed(refusal: Refusal) -> u32
-    requires { ⌜ refusalIndex refusal < 64 ⌝ }
+    requires { ⌜ refusalIndex refusal < mostMeters ⌝ }
     ensures { λ r. ⌜ r ≡ refusalNumber refusal + 256 * refusalIndex refusal ⌝ }
 {
     let index = refusals::refusal_index(refusal);
@@ -94,7 +95,7 @@ pub extern "C" fn segment_open(
     practice: bool,
     origin: f64,
 ) -> u32
-    ensures { λ r. ⌜ Opens (now (list .entry)) baud practice origin r (now (image .entry)) (now (image .exit)) ⌝ }
+    ensures { λ r. ⌜ OpenedImage (now (list .entry)) baud practice origin r (now (image .entry)) (now (image .exit)) ⌝ }
 {
     let s = image::read_image(image);
     let done = bus::open(s, list, baud, practice, origin);
@@ -131,7 +132,7 @@ pub extern "C" fn segment_send(
     hour: u32,
     minute: u32,
 ) -> u32
-    ensures { λ r. ⌜ Answers (Send.send (now (piece .entry)) (record { now = secs; year = year; month = month; day = day; hour = hour; minute = minute }) (imaged (now (image .entry)))) r (now (image .entry)) (now (image .exit)) ⌝ }
+    ensures { λ r. ⌜ DoneImage (Send.send (now (piece .entry)) (record { now = secs; year = year; month = month; day = day; hour = hour; minute = minute }) (imaged (now (image .entry)))) r (now (image .entry)) (now (image .exit)) ⌝ }
 {
     let s = image::read_image(image);
     let clock = Clock {
@@ -160,8 +161,8 @@ pub extern "C" fn segment_receive(image: &mut [u8; IMAGE], lent: &mut [u8]) -> u
 {
     let s = image::read_image(image);
     let done = bus::receive(s, lent);
-    let t = done.segment;
-    image::write_image(t, image);
+    let left = done.segment;
+    image::write_image(left, image);
     done.count
 }
 

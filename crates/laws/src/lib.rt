@@ -1,9 +1,17 @@
-// The lesser of two numbers.
+// The lesser of two numbers, and a test as a number.
 ghost use mathlib.Core.Path.{_≡_};
-ghost use Prim.Native.Nat.{min};
+ghost use Prim.Native.Nat.{min, _≤_};
+ghost use Rattle.laws.specs.Words.{bitIf};
 
 pub fn least(a: usize, b: usize) -> usize
     ensures { λ r. ⌜ r ≡ min a b ⌝ }
 {
     if a < b { a } else { b }
+}
+
+// 1 for yes, 0 for no.
+pub fn bit(yes: bool) -> u32
+    ensures { λ r. ⌜ (r ≡ bitIf yes) × (r ≤ 1) ⌝ }
+{
+    if yes { 1 } else { 0 }
 }

@@ -20,7 +20,7 @@ use Rattle.bus.specs.declared.Opened.{Opened as Opening}
 use Rattle.bus.specs.declared.Segment.{Segment}
 use Rattle.search.specs.declared.EntryRecord.{EntryRecord}
 use Rattle.search.specs.declared.Core.{Core}
-use Rattle.search.specs.View.{coreGives, Finds}
+use Rattle.search.specs.View.{coreGives, CoreFinds}
 use Rattle.search.specs.SearchCall.{Searched, searchCall}
 use Rattle.report_text.specs.Text.{reportOf, refusalOf, Prints}
 use Rattle.listing_text.specs.Listing.{listingClock, lentRecords, listIn, listedSegment, listedSearch, listingText, Lists}
@@ -64,7 +64,7 @@ module _ {input lent after : List ℕ} {r : ℕ} where
 
   -- f is a search of the segment q
   pub lists-report : (m i n : ℕ) (q : Segment) (k : Clock) (f : Core) → OpenedAs input m i → n ≡ m → n ≡ 0
-      → plainOf q ≡ listedSegment (listIn input) → k ≡ listingClock → Finds q k 10000 capacity f → length (f .entries) ≡ capacity
+      → plainOf q ≡ listedSegment (listIn input) → k ≡ listingClock → CoreFinds q k 10000 capacity f → length (f .entries) ≡ capacity
       → Prints lent (reportOf (take (f .count) (f .entries)) (f .probes)) r after → Lists input lent r after
   unfolding coreGives listedSearch capacity
   lists-report m i n q k f o e z a b c d p =

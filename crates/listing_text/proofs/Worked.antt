@@ -5,7 +5,7 @@ use Prim.Native.Nat.{ℕ}
 use lib.Ieee.{round, sub}
 use Rattle.frame.specs.Frame.{sum, encode, parseShort, parseBody, parseLong, parse}
 use Rattle.values.specs.Values.{little, bcd}
-use Rattle.identity.specs.Identity.{makerCode, idBytes, nibbles, decimal}
+use Rattle.identity.specs.Identity.{makerCode, idBytes, nibbles, inBase}
 use Rattle.dates.specs.Dates.{typeG, typeF}
 use Rattle.seconds.specs.Seconds.{whole, notBelow0, elapsedOf}
 use Rattle.meter.specs.Meter.{hears, put}
@@ -19,7 +19,7 @@ use Rattle.rules.specs.Tables.{media, faults}
 use Rattle.meter_list.specs.Layout.{readTexts, readRecords}
 use Rattle.rules.specs.Check.{goodId, goodMaker, check}
 use Rattle.scenarios.specs.Opening.{capacity, openRecords, openList}
-use Rattle.fresh_meter.specs.Fresh.{ownBaud, seedOf, fresh}
+use Rattle.fresh_meter.specs.Fresh.{otherThanBus, ownBaud, seedOf, fresh}
 use Rattle.bus.specs.Plain.{blank}
 use Rattle.bus.specs.Calls.{afterOpening}
 use Rattle.replies.specs.Replies.{joined}
@@ -28,12 +28,12 @@ use Rattle.send.specs.Send.{send}
 use Rattle.clock.specs.Fields.{goodClock}
 use Rattle.walk.specs.Walk.{maskDigits, mask, reading, ask, probe, good, idOf, entryOf, read, ten, walk, wholeWalk}
 use Rattle.search.specs.SearchCall.{searchCall}
-use Rattle.report_text.specs.Text.{inDecimal, number, line, firstLine, reportOf, refusalOf}
+use Rattle.report_text.specs.Text.{inDecimal, numberText, line, firstLine, reportOf, refusalOf}
 use Rattle.listing_text.specs.Listing.{listedSegment, listingClock, lentRecords, listIn, listedSearch, listingText, ListingGives}
 
 -- to unfold this is to unfold every definition that a listing computes with
 everything : ℕ
-unfolding sum encode parseShort parseBody parseLong parse little bcd typeG typeF makerCode idBytes nibbles decimal whole notBelow0 elapsedOf round sub hears put alike matches asked fixedData head clockF heatFirst heatSecond electricity water userData response damaged readout rates target nke request select commanded listens hear media faults readTexts readRecords goodId goodMaker check capacity ownBaud seedOf fresh openRecords openList blank joined heardBy handled steps settled afterOpening goodClock send maskDigits mask reading ask probe good idOf entryOf read ten walk wholeWalk searchCall inDecimal number line firstLine reportOf refusalOf listedSegment listingClock lentRecords listIn listedSearch listingText
+unfolding sum encode parseShort parseBody parseLong parse little bcd typeG typeF makerCode idBytes nibbles inBase whole notBelow0 elapsedOf round sub hears put alike matches asked fixedData head clockF heatFirst heatSecond electricity water userData response damaged readout rates target nke request select commanded listens hear media faults readTexts readRecords goodId goodMaker check capacity otherThanBus ownBaud seedOf fresh openRecords openList blank joined heardBy handled steps settled afterOpening goodClock send maskDigits mask reading ask probe good idOf entryOf read ten walk wholeWalk searchCall inDecimal numberText line firstLine reportOf refusalOf listedSegment listingClock lentRecords listIn listedSearch listingText
 everything = 0
 
 -- water meters 12345678 and 12345699

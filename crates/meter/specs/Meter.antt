@@ -17,8 +17,8 @@ rates = 300 ∷ 600 ∷ 1200 ∷ 2400 ∷ 4800 ∷ 9600 ∷ 19200 ∷ 38400 ∷ 
 
 -- what telegrams change stands in five groups: how it is reached, whether it is selected, where its readout stands, what is counted,
 -- and whether a flaky one hears next
-abbrev pub with : PlainMeter → (reached : ℕ × ℕ) → (selected : Bool) → (standing : ℕ × LastFcb) → (counted : ℕ × ℕ) → (hearsNext : Bool) → PlainMeter
-with m reached selected standing counted hearsNext =
+abbrev pub with : PlainMeter → (reached : ℕ × ℕ) → (selected : Bool) → (standing : ℕ × LastFcb) → (counters : ℕ × ℕ) → (hearsNext : Bool) → PlainMeter
+with m reached selected standing counters hearsNext =
     record {
       primary = reached .0;
       digits = m .digits;
@@ -27,12 +27,12 @@ with m reached selected standing counted hearsNext =
       medium = m .medium;
       model = m .model;
       fault = m .fault;
-      access = counted .0;
+      access = counters .0;
       baud = reached .1;
       selected = selected;
       part = standing .0;
       last = standing .1;
-      readouts = counted .1;
+      readouts = counters .1;
       seed = m .seed;
       hearsNext = hearsNext;
     }
@@ -44,24 +44,24 @@ reached m = (m .primary, m .baud)
 abbrev pub standing : PlainMeter → ℕ × LastFcb
 standing m = (m .part, m .last)
 
-abbrev pub counted : PlainMeter → ℕ × ℕ
-counted m = (m .access, m .readouts)
+abbrev pub counters : PlainMeter → ℕ × ℕ
+counters m = (m .access, m .readouts)
 
 abbrev pub withPrimary : ℕ → PlainMeter → PlainMeter
-withPrimary p m = with m (p, m .baud) (m .selected) (standing m) (counted m) (m .hearsNext)
+withPrimary p m = with m (p, m .baud) (m .selected) (standing m) (counters m) (m .hearsNext)
 
 abbrev pub withBaud : ℕ → PlainMeter → PlainMeter
-withBaud b m = with m (m .primary, b) (m .selected) (standing m) (counted m) (m .hearsNext)
+withBaud b m = with m (m .primary, b) (m .selected) (standing m) (counters m) (m .hearsNext)
 
 abbrev pub withSelected : Bool → PlainMeter → PlainMeter
-withSelected s m = with m (reached m) s (standing m) (counted m) (m .hearsNext)
+withSelected s m = with m (reached m) s (standing m) (counters m) (m .hearsNext)
 
 abbrev pub withHearsNext : Bool → PlainMeter → PlainMeter
-withHearsNext h m = with m (reached m) (m .selected) (standing m) (counted m) h
+withHearsNext h m = with m (reached m) (m .selected) (standing m) (counters m) h
 
 -- "reset": part 0 and no last FCB, as a fresh meter has them
 abbrev pub reset : PlainMeter → PlainMeter
-reset m = with m (reached m) (m .selected) (0, Never) (counted m) (m .hearsNext)
+reset m = with m (reached m) (m .selected) (0, Never) (counters m) (m .hearsNext)
 
 -- ---- hearing
 

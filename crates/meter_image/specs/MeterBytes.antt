@@ -16,20 +16,20 @@ use Rattle.meter.specs.declared.LastFcb.{LastFcb}
 use Rattle.meter.specs.declared.LastFcb.the-variants.{Never, Clear, Set}
 
 -- 0 no, any other yes
-abbrev pub flagOf : ℕ → Bool
-flagOf b = not (eqb b 0)
+abbrev pub flagBy : ℕ → Bool
+flagBy b = not (eqb b 0)
 
 -- 0 Heat, 1 Electricity, 2 Water, any other Fixed
-abbrev pub modelOf : ℕ → Model
-modelOf b = getD (Heat ∷ Electricity ∷ Water ∷ []) b Fixed
+abbrev pub modelBy : ℕ → Model
+modelBy b = getD (Heat ∷ Electricity ∷ Water ∷ []) b Fixed
 
 -- 0 None, 1 Checksum, 2 Truncated, 3 Busy, 4 WrongAddress, 5 Flaky, any other TooMany
-abbrev pub faultOf : ℕ → Fault
-faultOf b = getD (None ∷ Checksum ∷ Truncated ∷ Busy ∷ WrongAddress ∷ Flaky ∷ []) b TooMany
+abbrev pub faultBy : ℕ → Fault
+faultBy b = getD (None ∷ Checksum ∷ Truncated ∷ Busy ∷ WrongAddress ∷ Flaky ∷ []) b TooMany
 
 -- 0 Never, 1 Clear, any other Set
-abbrev pub lastOf : ℕ → LastFcb
-lastOf b = getD (Never ∷ Clear ∷ []) b Set
+abbrev pub lastBy : ℕ → LastFcb
+lastBy b = getD (Never ∷ Clear ∷ []) b Set
 
 -- a meter by its 25 bytes
 unfoldable pub metered : List ℕ → PlainMeter
@@ -40,18 +40,18 @@ metered bs =
       manufacturer = number 2 5 bs;
       version = at bs 7;
       medium = at bs 8;
-      model = modelOf (at bs 9);
-      fault = faultOf (at bs 10);
+      model = modelBy (at bs 9);
+      fault = faultBy (at bs 10);
       access = at bs 11;
       baud = number 4 12 bs;
-      selected = flagOf (at bs 16);
+      selected = flagBy (at bs 16);
       part = at bs 17;
-      last = lastOf (at bs 18);
+      last = lastBy (at bs 18);
       readouts = at bs 19;
       seed = number 4 20 bs;
-      hearsNext = flagOf (at bs 24);
+      hearsNext = flagBy (at bs 24);
     }
 
 -- the bytes that a meter is read from; fewer than 25 count as none
-abbrev pub whole : List ℕ → List ℕ
-whole bs = if ltb (length bs) 25 then [] else bs
+abbrev pub wholeMeter : List ℕ → List ℕ
+wholeMeter bs = if ltb (length bs) 25 then [] else bs

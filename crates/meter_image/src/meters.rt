@@ -2,7 +2,7 @@
 ghost use mathlib.Core.Path.{_≡_};
 ghost use mathlib.Core.List.{[]};
 ghost use Rattle.meter.specs.View.{plainMeter};
-ghost use Rattle.meter_image.specs.MeterBytes.{flagOf, modelOf, faultOf, lastOf, whole, metered};
+ghost use Rattle.meter_image.specs.MeterBytes.{flagBy, modelBy, faultBy, lastBy, wholeMeter, metered};
 use crate::written;
 use meter::Fault;
 use meter::LastFcb;
@@ -10,19 +10,19 @@ use meter::Meter;
 use meter::Model;
 
 fn flag(b: u8) -> bool
-    ensures { λ r. ⌜ r ≡ flagOf b ⌝ }
+    ensures { λ r. ⌜ r ≡ flagBy b ⌝ }
 {
     b != 0
 }
 
 fn flag_byte(b: bool) -> u8
-    ensures { λ r. ⌜ flagOf r ≡ b ⌝ }
+    ensures { λ r. ⌜ flagBy r ≡ b ⌝ }
 {
     if b { 1 } else { 0 }
 }
 
 fn model(b: u8) -> Model
-    ensures { λ r. ⌜ r ≡ modelOf b ⌝ }
+    ensures { λ r. ⌜ r ≡ modelBy b ⌝ }
 {
     match b {
         0 => Model::Heat,
@@ -33,7 +33,7 @@ fn model(b: u8) -> Model
 }
 
 fn model_byte(m: Model) -> u8
-    ensures { λ r. ⌜ modelOf r ≡ m ⌝ }
+    ensures { λ r. ⌜ modelBy r ≡ m ⌝ }
 {
     match m {
         Model::Heat => 0,
@@ -44,7 +44,7 @@ fn model_byte(m: Model) -> u8
 }
 
 fn fault(b: u8) -> Fault
-    ensures { λ r. ⌜ r ≡ faultOf b ⌝ }
+    ensures { λ r. ⌜ r ≡ faultBy b ⌝ }
 {
     match b {
         0 => Fault::None,
@@ -58,7 +58,7 @@ fn fault(b: u8) -> Fault
 }
 
 fn fault_byte(f: Fault) -> u8
-    ensures { λ r. ⌜ faultOf r ≡ f ⌝ }
+    ensures { λ r. ⌜ faultBy r ≡ f ⌝ }
 {
     match f {
         Fault::None => 0,
@@ -72,7 +72,7 @@ fn fault_byte(f: Fault) -> u8
 }
 
 fn last(b: u8) -> LastFcb
-    ensures { λ r. ⌜ r ≡ lastOf b ⌝ }
+    ensures { λ r. ⌜ r ≡ lastBy b ⌝ }
 {
     match b {
         0 => LastFcb::Never,
@@ -82,7 +82,7 @@ fn last(b: u8) -> LastFcb
 }
 
 fn last_byte(l: LastFcb) -> u8
-    ensures { λ r. ⌜ lastOf r ≡ l ⌝ }
+    ensures { λ r. ⌜ lastBy r ≡ l ⌝ }
 {
     match l {
         LastFcb::Never => 0,
@@ -115,7 +115,7 @@ fn no_meter() -> Meter
 
 // Fewer than 25 bytes count as none.
 pub fn read_meter(bs: &[u8]) -> Meter
-    ensures { λ r. ⌜ plainMeter r ≡ metered (whole (now (bs .entry))) ⌝ }
+    ensures { λ r. ⌜ plainMeter r ≡ metered (wholeMeter (now (bs .entry))) ⌝ }
 {
     if bs.len() < 25 {
         return no_meter();

@@ -14,7 +14,7 @@ use Rattle.meter_list.specs.declared.Listed.{Listed as Placed}
 use Rattle.meter_list.specs.declared.Step.the-variants.{Record, Bad, End}
 use Rattle.meter_list.specs.declared.Shape.{Shape}
 use Rattle.meter_list.specs.declared.Shape.the-variants.{Fits, Unversioned, Unfit}
-use Rattle.meter_list.specs.Reading.{listedOf, textEnd, recordTo, stepAt, countOf, shapeOf}
+use Rattle.meter_list.specs.Reading.{listedOf, textEnd, recordTo, stepAt, shapeOfCount, shapeOf}
 use Rattle.meter_list.proofs.StepLaws.{step-end, step-short, step-over, step-record}
 use Rattle.meter_list.proofs.ReadLaws.{more, afterStep, step-reads, reads-enough}
 
@@ -73,17 +73,17 @@ plus-zero (Fits n) = ap Fits (omega arith)
 plus-zero Unversioned = refl
 plus-zero Unfit = refl
 
-plus-more : (k : ℕ) (r : Listed) (x : Layout) → plus k (countOf (more r x)) ≡ plus (k + 1) (countOf x)
+plus-more : (k : ℕ) (r : Listed) (x : Layout) → plus k (shapeOfCount (more r x)) ≡ plus (k + 1) (shapeOfCount x)
 plus-more k r noFit = refl
 plus-more k r (fits rs) = ap Fits (omega arith)
 
 pub record Counted (s : List ℕ) (from a k : ℕ) : Type 0 where
   pub within : a ≤ length s
   pub few : k ≤ a
-  pub is : countOf (readFrom s from) ≡ plus k (countOf (readFrom s a))
+  pub is : shapeOfCount (readFrom s from) ≡ plus k (shapeOfCount (readFrom s a))
 
 pub counted-none : (s : List ℕ) (from : ℕ) → from ≤ length s → Counted s from from 0
-counted-none s from h = record { within = h; few = omega arith; is = plus-zero (countOf (readFrom s from)) }
+counted-none s from h = record { within = h; few = omega arith; is = plus-zero (shapeOfCount (readFrom s from)) }
 
 module _ {s : List ℕ} {from a k : ℕ} (c : Counted s from a k) where
   pub counted-more : (r : Placed) (x : ℕ) → Record r x ≡ stepAt s a → Counted s from x (k + 1)
@@ -92,14 +92,14 @@ module _ {s : List ℕ} {from a k : ℕ} (c : Counted s from a k) where
       record {
         within = o .within;
         few = omega (arith, o .before, c .few);
-        is = c .is ∙ ap (λ (y : Layout). plus k (countOf y)) (from-step s a ∙ ap (afterStep s (length s)) (sym q)) ∙ plus-more k (listedOf s r) (readFrom s x);
+        is = c .is ∙ ap (λ (y : Layout). plus k (shapeOfCount y)) (from-step s a ∙ ap (afterStep s (length s)) (sym q)) ∙ plus-more k (listedOf s r) (readFrom s x);
       }
 
-  pub counted-bad : Bad ≡ stepAt s a → Unfit ≡ countOf (readFrom s from)
-  counted-bad q = sym (c .is ∙ ap (λ (y : Layout). plus k (countOf y)) (from-step s a ∙ ap (afterStep s (length s)) (sym q)))
+  pub counted-bad : Bad ≡ stepAt s a → Unfit ≡ shapeOfCount (readFrom s from)
+  counted-bad q = sym (c .is ∙ ap (λ (y : Layout). plus k (shapeOfCount y)) (from-step s a ∙ ap (afterStep s (length s)) (sym q)))
 
-  pub counted-end : End ≡ stepAt s a → Fits k ≡ countOf (readFrom s from)
-  counted-end q = sym (c .is ∙ ap (λ (y : Layout). plus k (countOf y)) (from-step s a ∙ ap (afterStep s (length s)) (sym q)) ∙ ap Fits (add-zero k))
+  pub counted-end : End ≡ stepAt s a → Fits k ≡ shapeOfCount (readFrom s from)
+  counted-end q = sym (c .is ∙ ap (λ (y : Layout). plus k (shapeOfCount y)) (from-step s a ∙ ap (afterStep s (length s)) (sym q)) ∙ ap Fits (add-zero k))
 
 -- ---- the whole list
 
@@ -115,6 +115,6 @@ pub shape-length : (bs : List ℕ) → 3 ≤ length bs → at bs 0 ≡ 1 → (at
 unfolding shapeOf
 shape-length bs h v l = rw (le-ltb (length bs) 3 h, eq-eqb (at bs 0) 1 v, ne-eqb (at bs 1 * 256 + at bs 2) (length bs - 3) l)
 
-pub shape-records : (bs : List ℕ) → 3 ≤ length bs → at bs 0 ≡ 1 → at bs 1 * 256 + at bs 2 ≡ length bs - 3 → countOf (readFrom bs 3) ≡ shapeOf bs
+pub shape-records : (bs : List ℕ) → 3 ≤ length bs → at bs 0 ≡ 1 → at bs 1 * 256 + at bs 2 ≡ length bs - 3 → shapeOfCount (readFrom bs 3) ≡ shapeOf bs
 unfolding shapeOf
 shape-records bs h v l = rw (le-ltb (length bs) 3 h, eq-eqb (at bs 0) 1 v, eq-eqb (at bs 1 * 256 + at bs 2) (length bs - 3) l)

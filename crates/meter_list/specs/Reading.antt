@@ -101,13 +101,13 @@ nextOf r =
 -- ---- the whole list
 
 -- how many records, or that a length does not fit
-abbrev pub countOf : Layout → Shape
-countOf noFit = Unfit
-countOf (fits rs) = Fits (length rs)
+abbrev pub shapeOfCount : Layout → Shape
+shapeOfCount noFit = Unfit
+shapeOfCount (fits rs) = Fits (length rs)
 
 -- byte 0 is version 01; two bytes, big-endian, count all that follows; then records
 unfoldable pub shapeOf : List ℕ → Shape
 shapeOf bs =
     if ltb (length bs) 3 || not (eqb (at bs 0) 1) then Unversioned else
     if not (eqb (at bs 1 * 256 + at bs 2) (length bs - 3)) then Unfit else
-    countOf (readRecords (length bs) (drop 3 bs))
+    shapeOfCount (readRecords (length bs) (drop 3 bs))

@@ -2,7 +2,7 @@
 ghost use mathlib.Core.Path.{_≡_};
 ghost use Prim.Native.Nat.{_+_, _*_, _≤_, _<_};
 ghost use lib.ListN.{length, drop};
-ghost use Rattle.meter_list.specs.Reading.{textEnd, between, Ordered, placed, stepAt, recordTo, shapeOf, countOf};
+ghost use Rattle.meter_list.specs.Reading.{textEnd, between, Ordered, placed, stepAt, recordTo, shapeOf, shapeOfCount};
 ghost use Rattle.meter_list.specs.Layout.{readRecords};
 use super::Listed;
 use super::Shape;
@@ -116,7 +116,7 @@ pub(crate) fn record_at(list: &[u8], at: usize) -> Step
 // The number of records from a position on.
 fn count_from(list: &[u8], from: usize) -> Shape
     requires { ⌜ from ≤ length (now list) ⌝ }
-    ensures { λ r. ⌜ r ≡ countOf (readRecords (length (now (list .entry))) (drop from (now (list .entry)))) ⌝ }
+    ensures { λ r. ⌜ r ≡ shapeOfCount (readRecords (length (now (list .entry))) (drop from (now (list .entry)))) ⌝ }
 {
     let mut at = from;
     let mut count: usize = 0;

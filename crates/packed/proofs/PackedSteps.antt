@@ -7,14 +7,14 @@ use borrow.Author.Tests.{eq-eqb, ne-eqb, le-leb, lt-leb}
 use Rattle.scenarios.specs.Opening.{capacity}
 use Rattle.packed.specs.declared.walk.Walk.{Walk}
 use Rattle.packed.specs.Marks.{masked, acked, readKey, readBy, sweptBy, foldBy}
-use Rattle.packed.specs.Packed.{Run, Noted, viewOf, Once, onceR, heardR, noteR, countR, stopR, walkR, rowR, spanOf}
+use Rattle.packed.specs.Packed.{RunR, Noted, viewOf, Once, onceR, heardR, noteR, countR, stopR, walkR, rowR, spanOf}
 
 -- an entry more, seen as a walk
 pub noted-view : (w : Walk) (es : List ℕ) (e : ℕ) (r : Walk) (fs ss : List ℕ) → Noted w es e r fs → viewOf r ss fs ≡ noteR e ss (viewOf w ss es)
 unfolding viewOf
 noted-view w es e r fs ss l = rw (l .entries, l .probes, l .spent)
 
-module _ (ks : List ℕ) (allowance low high : ℕ) (t : Run) where
+module _ (ks : List ℕ) (allowance low high : ℕ) (t : RunR) where
   pub once-stop : allowance ≤ t .probes → record { many = 0; run = stopR t } ≡ onceR ks allowance low high t
   unfolding onceR
   once-stop h = rw (le-leb allowance (t .probes) h)
@@ -32,7 +32,7 @@ module _ (ks : List ℕ) (allowance low high : ℕ) (t : Run) where
     once-other h = rw (ne-eqb n 1 h) at once-paid
 
 -- what follows one probe
-module _ (ks : List ℕ) (allowance low : ℕ) (t : Run) (o : Once) where
+module _ (ks : List ℕ) (allowance low : ℕ) (t : RunR) (o : Once) where
   pub walk-done : (u : ℕ) → o ≡ onceR ks allowance low (low + spanOf u) t → o .many ≡ 0 → o .run ≡ walkR ks allowance u low t
   unfolding walkR
   walk-done zero e h = simp (← e, eq-eqb (o .many) 0 h)
@@ -75,7 +75,7 @@ steps-less d u h =
     let e : 10 - d ≡ suc (10 - (d + 1)) = omega arith in
     rw e
 
-module _ (f : ℕ → Run → Run) (unit l : ℕ) (t : Run) where
+module _ (f : ℕ → RunR → RunR) (unit l : ℕ) (t : RunR) where
   pub row-step : (d : ℕ) → d < 10 → rowR f unit (10 - (d + 1)) (l + unit) (f l t) ≡ rowR f unit (10 - d) l t
   unfolding rowR
   row-step d h =

@@ -6,12 +6,7 @@ use mathlib.Core.List.{List, [], _∷_}
 use Prim.Native.Nat.{ℕ, zero, suc, _+_, _-_, _*_, _/_, _%_}
 use lib.Dec.{leb, ltb, eqb}
 use lib.Bits.{bitAnd, bitOr, bitXor}
-use Rattle.laws.specs.Words.{if_then_else_}
-
--- a test as a bit
-abbrev pub bitIf : Bool → ℕ
-bitIf true = 1
-bitIf false = 0
+use Rattle.laws.specs.Words.{if_then_else_, bitIf}
 
 -- the ids of a mask
 abbrev pub inside : ℕ → ℕ → ℕ → Bool

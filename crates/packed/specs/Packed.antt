@@ -14,14 +14,14 @@ use Rattle.packed.specs.declared.walk.Probed.{Probed}
 use Rattle.packed.specs.Marks.{masked, acked, readKey, readBy, sweptBy, foldBy}
 
 -- where a walk stands
-pub record Run : Type 0 where
+pub record RunR : Type 0 where
   pub entries : List ℕ
   pub probes : ℕ
   pub spent : Bool
   pub marks : List ℕ
 
 -- the program's walk with the lent marks and entries
-unfoldable pub viewOf : Walk → List ℕ → List ℕ → Run
+unfoldable pub viewOf : Walk → List ℕ → List ℕ → RunR
 viewOf w ss es = record { entries = take (w .found) es; probes = w .probes; spent = w .spent; marks = ss }
 
 -- lent arrays of keys, marks and entries have all their places
@@ -42,34 +42,34 @@ pub record Noted (w : Walk) (es : List ℕ) (e : ℕ) (r : Walk) (fs : List ℕ)
   pub room : length fs ≡ capacity
 
 -- stopped before the next probe
-abbrev pub stopR : Run → Run
+abbrev pub stopR : RunR → RunR
 stopR t = record { entries = t .entries; probes = t .probes; spent = true; marks = t .marks }
 
 -- one probe more, which left the marks ss
-abbrev pub countR : List ℕ → Run → Run
+abbrev pub countR : List ℕ → RunR → RunR
 countR ss t = record { entries = t .entries; probes = t .probes + 1; spent = false; marks = ss }
 
 -- one entry more; the marks are ss
-abbrev pub noteR : ℕ → List ℕ → Run → Run
+abbrev pub noteR : ℕ → List ℕ → RunR → RunR
 noteR e ss t = record { entries = pushR e (t .entries); probes = t .probes; spent = t .spent; marks = ss }
 
 -- a probe without its row, and how many answered where they are several
 pub record Once : Type 0 where
   pub many : ℕ
-  pub run : Run
+  pub run : RunR
 
 -- the same of the program, with the lent marks and entries
 unfoldable pub onceOf : Probed → List ℕ → List ℕ → Once
 onceOf r ss es = record { many = r .many; run = viewOf (r .walk) ss es }
 
 -- n acknowledged: one is read, several are left to the caller
-abbrev pub heardR : List ℕ → ℕ → ℕ → List ℕ → Run → Once
+abbrev pub heardR : List ℕ → ℕ → ℕ → List ℕ → RunR → Once
 heardR ks high n ss t =
     if eqb n 1 then record { many = 0; run = noteR (foldBy readKey high capacity ks ss) (sweptBy readBy capacity ks ss) (countR ss t) }
     else record { many = n; run = countR ss t }
 
 -- one probe of the mask low..high, unless the allowance is spent
-unfoldable pub onceR : List ℕ → ℕ → ℕ → ℕ → Run → Once
+unfoldable pub onceR : List ℕ → ℕ → ℕ → ℕ → RunR → Once
 onceR ks allowance low high t =
     if leb allowance (t .probes) then record { many = 0; run = stopR t }
     else heardR ks high (foldBy (acked low high) 0 capacity ks (t .marks)) (sweptBy (masked low high) capacity ks (t .marks)) t
@@ -80,16 +80,16 @@ spanOf zero = 0
 spanOf (suc u) = spanOf u * 16 + 15
 
 -- n masks, each by `unit` higher than the one before
-unfoldable pub rowR : (ℕ → Run → Run) → ℕ → ℕ → ℕ → Run → Run
+unfoldable pub rowR : (ℕ → RunR → RunR) → ℕ → ℕ → ℕ → RunR → RunR
 rowR f unit zero l t = t
 rowR f unit (suc n) l t = rowR f unit n (l + unit) (f l t)
 
 -- what follows one probe: `several` where several answered
-abbrev pub thenR : Once → (Run → Run) → Run
+abbrev pub thenR : Once → (RunR → RunR) → RunR
 thenR o several = if eqb (o .many) 0 then o .run else several (o .run)
 
 -- the walk from the mask that begins at low, with u digits unknown
-unfoldable pub walkR : List ℕ → ℕ → ℕ → ℕ → Run → Run
+unfoldable pub walkR : List ℕ → ℕ → ℕ → ℕ → RunR → RunR
 walkR ks allowance zero low t =
     let o = onceR ks allowance low (low + spanOf 0) t in
     thenR o (λ r. noteR (o .many * 0x100000000 + low) (r .marks) r)
@@ -98,11 +98,11 @@ walkR ks allowance (suc u) low t =
     thenR o (rowR (walkR ks allowance u) (spanOf u + 1) 10 low)
 
 -- the walk from the mask with no digit, which finds the marks ss
-abbrev pub wholeR : List ℕ → List ℕ → ℕ → Run
+abbrev pub wholeR : List ℕ → List ℕ → ℕ → RunR
 wholeR ks ss allowance = walkR ks allowance 8 0 (record { entries = []; probes = 0; spent = false; marks = ss })
 
 -- what the program gives of it, as a walk that ended
-unfoldable pub foundOf : Found → Run
+unfoldable pub foundOf : Found → RunR
 foundOf r = record { entries = take (r .found) (r .entries); probes = r .probes; spent = r .spent; marks = r .marks }
 
 -- the program's walk from the mask with no digit; its arrays have all their places

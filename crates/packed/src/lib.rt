@@ -5,7 +5,7 @@ ghost use Rattle.scenarios.specs.Opening.{capacity};
 ghost use Rattle.packed.specs.Packed.{Goes};
 use scenarios::METERS;
 
-pub mod marks;
+mod marks;
 mod walk;
 
 // What a walk gives: the first `found` entries are those found; the marks are those that it leaves.

@@ -5,15 +5,9 @@ ghost use mathlib.Core.Path.{_≡_};
 ghost use Prim.Native.Nat.{ℕ, _≤_};
 ghost use lib.ListN.{length};
 ghost use Rattle.scenarios.specs.Opening.{capacity};
-ghost use Rattle.packed.specs.Marks.{bitIf, inside, yesOf, hearsOf, marked, masked, acked, readoutsIn, readMark, readKey, readBy, sweptBy, foldBy};
+ghost use Rattle.packed.specs.Marks.{inside, yesOf, hearsOf, marked, masked, acked, readoutsIn, readMark, readKey, readBy, sweptBy, foldBy};
+use laws::bit;
 use scenarios::METERS;
-
-// A test as a bit.
-pub fn bit(b: bool) -> u32
-    ensures { λ r. ⌜ (r ≡ bitIf b) × (r ≤ 1) ⌝ }
-{
-    if b { 1 } else { 0 }
-}
 
 // A mask's ids are those from its lowest to its highest.
 fn within(key: u32, low: u32, high: u32) -> bool

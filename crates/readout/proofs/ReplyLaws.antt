@@ -11,7 +11,7 @@ use Rattle.frame.specs.Frame.{Telegram, long, encode, dataOf}
 use Rattle.frame.proofs.RoundTrip.{length-long}
 use Rattle.telegram_writer.specs.Writer as definitions
 use Rattle.telegram_writer.specs.Writer.{write}
-use Rattle.telegram_writer.specs.View.{countOf, writtenOf}
+use Rattle.telegram_writer.specs.View.{writtenCount, writtenOf}
 use Rattle.telegram_writer.specs.declared.Written.{Written}
 use Rattle.readout.specs.Response.{damaged}
 use Rattle.meter.specs.declared.Fault.the-variants.{Checksum, Truncated}
@@ -23,16 +23,16 @@ write-fits t was h k = rw (le-ltb _ _ h, le-ltb _ _ k)
 
 -- what was written, by the count
 pub sent : (w : Written) (t : Telegram) (was now : List ℕ) → writtenOf w now ≡ write t was → length (dataOf t) ≤ 252 → length (encode t) ≤ length was
-    → take (countOf w) now ≡ encode t
+    → take (writtenCount w) now ≡ encode t
 sent w t was now e h k =
     let f : writtenOf w now ≡ record { number = 0; count = length (encode t); lent = encode t ++ drop (length (encode t)) was } = e ∙ write-fits t was h k in
     ap (λ (r : definitions.Written). take (r .count) (r .lent)) f ∙ take-at (encode t) (drop (length (encode t)) was) (length (encode t)) refl
 
 -- the same for long data that fit a reply, by the answer v that w is
 pub sent-long : (w v : Written) (c a ci : ℕ) (d e was now : List ℕ) → w ≡ v → d ≡ e → length d ≤ 87 → length was ≡ 96
-    → writtenOf w now ≡ write (long c a ci d) was → take (countOf v) now ≡ encode (long c a ci e)
+    → writtenOf w now ≡ write (long c a ci d) was → take (writtenCount v) now ≡ encode (long c a ci e)
 sent-long w v c a ci d e was now q s h l p =
-    ap (λ x. take (countOf x) now) (sym q)
+    ap (λ x. take (writtenCount x) now) (sym q)
     ∙ sent w (long c a ci d) was now p (omega arith) (omega (arith, length-long c a ci d))
     ∙ ap (λ x. encode (long c a ci x)) s
 

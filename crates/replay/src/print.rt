@@ -43,8 +43,8 @@ pub(crate) fn wide16(x: u16) -> u64 {
     x as u64
 }
 
-pub(crate) fn bit(b: bool) -> u64 {
-    if b { 1 } else { 0 }
+pub(crate) fn bit(yes: bool) -> u64 {
+    laws::bit(yes) as u64
 }
 
 // Each byte in so many hexadecimal digits.

@@ -102,10 +102,10 @@ pub(crate) fn state(segment: Segment) {
     meters(segment);
 }
 
-fn one_if(b: bool) -> usize
+fn one_if(yes: bool) -> usize
     ensures { λ r. ⌜ r ≤ 1 ⌝ }
 {
-    if b { 1 } else { 0 }
+    laws::bit(yes) as usize
 }
 
 // How many meters are at the bus's rate.

@@ -10,7 +10,7 @@ use lib.Seq.{paste, paste-zero, length-paste, length-take-le, take-all, take-len
 use borrow.Author.Tests.{le-ltb, lt-ltb}
 use Rattle.laws.proofs.Copy.{Copied, take-min}
 use Rattle.search.specs.declared.EntryRecord.{EntryRecord}
-use Rattle.report_text.specs.Text.{inDecimal, number, line, lines, firstLine, reportOf, Wrote, Prints}
+use Rattle.report_text.specs.Text.{inDecimal, numberText, line, lines, firstLine, reportOf, Wrote, Prints}
 
 -- ---- one text behind another
 
@@ -64,14 +64,14 @@ wrote-none {l} {at} = record { is = paste-zero l at []; end = omega arith; long 
 
 -- rest is what is still to be written of n, before the digits of ds from place i on
 pub record Spelling (n i rest : ℕ) (ds : List ℕ) : Type 0 where
-  pub is : inDecimal i rest (drop i ds) ≡ number n
+  pub is : inDecimal i rest (drop i ds) ≡ numberText n
   pub small : rest < 10 ^ i
   pub some : 0 < i
   pub fits : i ≤ 10
   pub long : length ds ≡ 10
 
 pub spelling-none : {n : ℕ} {ds : List ℕ} → n < 4294967296 → length ds ≡ 10 → Spelling n 10 n ds
-unfolding number
+unfolding numberText
 spelling-none {n} {ds} h e =
     record { is = ap (inDecimal 10 n) (drop-of-length-le ds {i = 10} (omega arith)); small = omega arith; some = omega arith; fits = omega arith; long = e }
 
@@ -112,7 +112,7 @@ spelling-more {n} {i} {rest} {ds} p h =
       long = length-set ds k (0x30 + rest % 10) ∙ p .long;
     }
 
-pub spelling-done : {n i rest : ℕ} {ds : List ℕ} → Spelling n i rest ds → rest < 10 → drop (i - 1) (set ds (i - 1) (0x30 + rest)) ≡ number n
+pub spelling-done : {n i rest : ℕ} {ds : List ℕ} → Spelling n i rest ds → rest < 10 → drop (i - 1) (set ds (i - 1) (0x30 + rest)) ≡ numberText n
 spelling-done {n} {i} {rest} {ds} p h =
     let k : ℕ = i - 1 in
     let e : i ≡ suc k = omega (arith, p .some) in

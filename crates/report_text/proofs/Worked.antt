@@ -2,7 +2,7 @@
 use mathlib.Core.Path.{_≡_, refl}
 use mathlib.Core.List.{[], _∷_}
 use Rattle.search.specs.declared.Kind.the-variants.{One, Mute, Many}
-use Rattle.report_text.specs.Text.{inDecimal, number, line, firstLine, refusalOf}
+use Rattle.report_text.specs.Text.{inDecimal, numberText, line, firstLine, refusalOf}
 
 -- one 10000010
 pub line-one : line (record { kind = One; digits = 1 ∷ 0 ∷ 0 ∷ 0 ∷ 0 ∷ 0 ∷ 1 ∷ 0 ∷ []; count = 1 }) ≡ 0x6F ∷ 0x6E ∷ 0x65 ∷ 0x20 ∷ 0x31 ∷ 0x30 ∷ 0x30 ∷ 0x30 ∷ 0x30 ∷ 0x30 ∷ 0x31 ∷ 0x30 ∷ 0x0A ∷ []
@@ -16,25 +16,25 @@ line-mute = refl
 
 -- many 77777777 2
 pub line-many : line (record { kind = Many; digits = 7 ∷ 7 ∷ 7 ∷ 7 ∷ 7 ∷ 7 ∷ 7 ∷ 7 ∷ []; count = 2 }) ≡ 0x6D ∷ 0x61 ∷ 0x6E ∷ 0x79 ∷ 0x20 ∷ 0x37 ∷ 0x37 ∷ 0x37 ∷ 0x37 ∷ 0x37 ∷ 0x37 ∷ 0x37 ∷ 0x37 ∷ 0x20 ∷ 0x32 ∷ 0x0A ∷ []
-unfolding line number inDecimal
+unfolding line numberText inDecimal
 line-many = refl
 
 -- 15 entries, 281 probes
 pub first-of-praxis : firstLine 15 281 ≡ 0x31 ∷ 0x35 ∷ 0x20 ∷ 0x65 ∷ 0x6E ∷ 0x74 ∷ 0x72 ∷ 0x69 ∷ 0x65 ∷ 0x73 ∷ 0x2C ∷ 0x20 ∷ 0x32 ∷ 0x38 ∷ 0x31 ∷ 0x20 ∷ 0x70 ∷ 0x72 ∷ 0x6F ∷ 0x62 ∷ 0x65 ∷ 0x73 ∷ 0x0A ∷ []
-unfolding firstLine number inDecimal
+unfolding firstLine numberText inDecimal
 first-of-praxis = refl
 
 -- "in these words for 1 too"
 pub first-of-one : firstLine 1 1 ≡ 0x31 ∷ 0x20 ∷ 0x65 ∷ 0x6E ∷ 0x74 ∷ 0x72 ∷ 0x69 ∷ 0x65 ∷ 0x73 ∷ 0x2C ∷ 0x20 ∷ 0x31 ∷ 0x20 ∷ 0x70 ∷ 0x72 ∷ 0x6F ∷ 0x62 ∷ 0x65 ∷ 0x73 ∷ 0x0A ∷ []
-unfolding firstLine number inDecimal
+unfolding firstLine numberText inDecimal
 first-of-one = refl
 
 -- a record's refusal
 pub refused-5 : refusalOf 5 ≡ 0x72 ∷ 0x65 ∷ 0x66 ∷ 0x75 ∷ 0x73 ∷ 0x65 ∷ 0x64 ∷ 0x20 ∷ 0x35 ∷ 0x0A ∷ []
-unfolding refusalOf number inDecimal
+unfolding refusalOf numberText inDecimal
 refused-5 = refl
 
 -- refused 10
 pub refused-10 : refusalOf 10 ≡ 0x72 ∷ 0x65 ∷ 0x66 ∷ 0x75 ∷ 0x73 ∷ 0x65 ∷ 0x64 ∷ 0x20 ∷ 0x31 ∷ 0x30 ∷ 0x0A ∷ []
-unfolding refusalOf number inDecimal
+unfolding refusalOf numberText inDecimal
 refused-10 = refl

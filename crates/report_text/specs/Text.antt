@@ -21,8 +21,8 @@ inDecimal (suc d) n after =
     inDecimal d (n / 10) ((0x30 + n % 10) ∷ after)
 
 -- ten digits are enough for every number of 32 bits
-unfoldable pub number : ℕ → List ℕ
-number n = inDecimal 10 n []
+unfoldable pub numberText : ℕ → List ℕ
+numberText n = inDecimal 10 n []
 
 -- "eight digits, most significant first"; "mask with F". No list that opens has other digits than 0 to 9.
 abbrev pub digit : ℕ → ℕ
@@ -57,14 +57,14 @@ refusedWord = 0x72 ∷ 0x65 ∷ 0x66 ∷ 0x75 ∷ 0x73 ∷ 0x65 ∷ 0x64 ∷ 0x2
 -- ---- the lines
 
 -- the count of a many
-abbrev pub counted : Kind → ℕ → List ℕ
-counted One n = []
-counted Mute n = []
-counted Many n = 0x20 ∷ number n
+abbrev pub countText : Kind → ℕ → List ℕ
+countText One n = []
+countText Mute n = []
+countText Many n = 0x20 ∷ numberText n
 
 -- "`one` id, `mute` mask with F, `many` id count"
 unfoldable pub line : EntryRecord → List ℕ
-line e = word (e .kind) ++ eightDigits (e .digits) ++ counted (e .kind) (e .count) ++ newline
+line e = word (e .kind) ++ eightDigits (e .digits) ++ countText (e .kind) (e .count) ++ newline
 
 abbrev pub lines : List EntryRecord → List ℕ
 lines [] = []
@@ -72,14 +72,14 @@ lines (e ∷ es) = line e ++ lines es
 
 -- "Line 1: entry count, probes made, in these words for 1 too."
 unfoldable pub firstLine : ℕ → ℕ → List ℕ
-firstLine entries probes = number entries ++ entriesWord ++ number probes ++ probesWord
+firstLine entries probes = numberText entries ++ entriesWord ++ numberText probes ++ probesWord
 
 unfoldable pub reportOf : List EntryRecord → ℕ → List ℕ
 reportOf es probes = firstLine (length es) probes ++ lines es
 
 -- "A refused list prints `refused` and the number."
 unfoldable pub refusalOf : ℕ → List ℕ
-refusalOf n = refusedWord ++ number n ++ newline
+refusalOf n = refusedWord ++ numberText n ++ newline
 
 -- ---- a text in lent bytes
 

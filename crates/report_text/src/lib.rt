@@ -3,7 +3,7 @@ ghost use mathlib.Core.Path.{_≡_};
 ghost use Prim.Native.Nat.{ℕ, _+_, _≤_, _<_};
 ghost use lib.ListN.{length, take, drop};
 ghost use Rattle.report_text.specs.Text;
-ghost use Rattle.report_text.specs.Text.{number, eightDigits, lines, firstLine, reportOf, refusalOf, room, Wrote, Prints};
+ghost use Rattle.report_text.specs.Text.{numberText, eightDigits, lines, firstLine, reportOf, refusalOf, room, Wrote, Prints};
 ghost use Rattle.scenarios.specs.Opening.{capacity};
 use bus::METERS;
 use laws::least;
@@ -33,7 +33,7 @@ struct Spelled {
 }
 
 fn spell(n: u32) -> Spelled
-    ensures { λ r. ⌜ (drop (r .from) (r .digits) ≡ number n) × (r .from ≤ 10) × (length (r .digits) ≡ 10) ⌝ }
+    ensures { λ r. ⌜ (drop (r .from) (r .digits) ≡ numberText n) × (r .from ≤ 10) × (length (r .digits) ≡ 10) ⌝ }
 {
     let mut digits = [0u8; 10];
     let mut i: usize = 10;
@@ -53,7 +53,7 @@ fn spell(n: u32) -> Spelled
 
 fn put_number(out: &mut [u8; TEXT], at: usize, n: u32) -> usize
     requires { ⌜ (at + 10 ≤ room) × (length (now out) ≡ room) ⌝ }
-    ensures { λ r. ⌜ Wrote (now (out .entry)) at (number n) r (now (out .exit)) × (r ≤ at + 10) ⌝ }
+    ensures { λ r. ⌜ Wrote (now (out .entry)) at (numberText n) r (now (out .exit)) × (r ≤ at + 10) ⌝ }
 {
     let s = spell(n);
     let digits = s.digits;
@@ -94,7 +94,7 @@ fn put_word(out: &mut [u8; TEXT], at: usize, kind: Kind) -> usize
 
 fn put_count(out: &mut [u8; TEXT], at: usize, kind: Kind, count: u32) -> usize
     requires { ⌜ (at + 11 ≤ room) × (length (now out) ≡ room) ⌝ }
-    ensures { λ r. ⌜ Wrote (now (out .entry)) at (Text.counted kind count) r (now (out .exit)) × (r ≤ at + 11) ⌝ }
+    ensures { λ r. ⌜ Wrote (now (out .entry)) at (Text.countText kind count) r (now (out .exit)) × (r ≤ at + 11) ⌝ }
 {
     match kind {
         Kind::One => at,

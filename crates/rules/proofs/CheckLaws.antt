@@ -9,15 +9,14 @@ use native.Mathlib.Omega.{arith}
 use lib.Dec.{eqb, leb, lit≤}
 use lib.ListN.{length}
 use borrow.Author.Tests.{eq-eqb, ne-eqb, eqb-true, leb-true}
-use Rattle.laws.specs.Words.{at}
+use Rattle.laws.specs.Words.{at, sameList}
 use Rattle.laws.specs.Sweep.{fold}
 use Rattle.laws.proofs.Lists.{and-l, and-r}
 use Rattle.laws.proofs.Sweep.{Folded, folded-none, folded-more, folded-whole}
 use Rattle.meter.specs.Meter.{rates}
-use Rattle.identity.specs.Identity.{decimal}
-use Rattle.rules.specs.Tables.{sameText, isRate, medium-heat-old}
-use Rattle.rules.specs.Check.{within, textDigits, goodId, goodMaker}
-use Rattle.rules.specs.Checked.{inBase}
+use Rattle.identity.specs.Identity.{inBase}
+use Rattle.rules.specs.Tables.{isRate, medium-heat-old}
+use Rattle.rules.specs.Check.{allWithin, textDigits, goodId, goodMaker}
 
 -- ---- id
 
@@ -25,24 +24,24 @@ pub id-other : (t : List ℕ) → (length t ≡ 8 → ⊥) → false ≡ goodId 
 unfolding goodId
 id-other t h = rw (ne-eqb (length t) 8 h)
 
-pub id-eight : (t : List ℕ) {r : Bool} → length t ≡ 8 → r ≡ within 0x30 0x39 t → r ≡ goodId t
+pub id-eight : (t : List ℕ) {r : Bool} → length t ≡ 8 → r ≡ allWithin 0x30 0x39 t → r ≡ goodId t
 unfolding goodId
 id-eight t h q = rw (eq-eqb (length t) 8 h) q
 
 pub id-length : (t : List ℕ) → goodId t ≡ true → length t ≡ 8
 unfolding goodId
-id-length t h = eqb-true (length t) 8 (and-l (eqb (length t) 8) (within 0x30 0x39 t) h)
+id-length t h = eqb-true (length t) 8 (and-l (eqb (length t) 8) (allWithin 0x30 0x39 t) h)
 
-within-at : (lo hi : ℕ) (t : List ℕ) (i : ℕ) → within lo hi t ≡ true → i < length t → (lo ≤ at t i) × (at t i ≤ hi)
+within-at : (lo hi : ℕ) (t : List ℕ) (i : ℕ) → allWithin lo hi t ≡ true → i < length t → (lo ≤ at t i) × (at t i ≤ hi)
 within-at lo hi [] i h k = absurd (not-suc-le-zero k)
 within-at lo hi (b ∷ bs) zero h k =
-    let both = and-l (leb lo b && leb b hi) (within lo hi bs) h in
+    let both = and-l (leb lo b && leb b hi) (allWithin lo hi bs) h in
     (leb-true lo b (and-l (leb lo b) (leb b hi) both), leb-true b hi (and-r (leb lo b) (leb b hi) both))
-within-at lo hi (b ∷ bs) (suc i) h k = within-at lo hi bs i (and-r (leb lo b && leb b hi) (within lo hi bs) h) (le-of-suc-le-suc k)
+within-at lo hi (b ∷ bs) (suc i) h k = within-at lo hi bs i (and-r (leb lo b && leb b hi) (allWithin lo hi bs) h) (le-of-suc-le-suc k)
 
 pub id-digit : (t : List ℕ) (i : ℕ) → goodId t ≡ true → i < 8 → (0x30 ≤ at t i) × (at t i ≤ 0x39)
 unfolding goodId
-id-digit t i h k = within-at 0x30 0x39 t i (and-r (eqb (length t) 8) (within 0x30 0x39 t) h) (omega (arith, id-length t h))
+id-digit t i h k = within-at 0x30 0x39 t i (and-r (eqb (length t) 8) (allWithin 0x30 0x39 t) h) (omega (arith, id-length t h))
 
 -- ---- manufacturer
 
@@ -50,7 +49,7 @@ or-false : (b : Bool) → b ≡ b || false
 or-false true = refl
 or-false false = refl
 
-pub maker-none : (t m : List ℕ) {r : Bool} → length t ≡ 0 → r ≡ sameText (medium-heat-old .key) m → r ≡ goodMaker t m
+pub maker-none : (t m : List ℕ) {r : Bool} → length t ≡ 0 → r ≡ sameList (medium-heat-old .key) m → r ≡ goodMaker t m
 unfolding goodMaker
 maker-none t m h q = rw (ne-eqb (length t) 3 (λ e. omega arith), eq-eqb (length t) 0 h) q
 
@@ -58,9 +57,9 @@ pub maker-other : (t m : List ℕ) → (length t ≡ 0 → ⊥) → (length t �
 unfolding goodMaker
 maker-other t m h k = rw (ne-eqb (length t) 3 k, ne-eqb (length t) 0 h)
 
-pub maker-three : (t m : List ℕ) {r : Bool} → length t ≡ 3 → r ≡ within 0x41 0x5A t → r ≡ goodMaker t m
+pub maker-three : (t m : List ℕ) {r : Bool} → length t ≡ 3 → r ≡ allWithin 0x41 0x5A t → r ≡ goodMaker t m
 unfolding goodMaker
-maker-three t m {r} h q = rw (eq-eqb (length t) 3 h, ne-eqb (length t) 0 (λ e. omega arith)) (q ∙ or-false (within 0x41 0x5A t))
+maker-three t m {r} h q = rw (eq-eqb (length t) 3 h, ne-eqb (length t) 0 (λ e. omega arith)) (q ∙ or-false (allWithin 0x41 0x5A t))
 
 -- ---- own baud
 
@@ -127,8 +126,3 @@ eight P k (a ∷ b ∷ c ∷ d ∷ e ∷ f ∷ []) l = absurd (omega arith)
 eight P k (a ∷ b ∷ c ∷ d ∷ e ∷ f ∷ g ∷ []) l = absurd (omega arith)
 eight P k (a ∷ b ∷ c ∷ d ∷ e ∷ f ∷ g ∷ h ∷ []) l = k a b c d e f g h
 eight P k (a ∷ b ∷ c ∷ d ∷ e ∷ f ∷ g ∷ h ∷ i ∷ t) l = absurd (omega arith)
-
--- the id as a decimal number
-pub decimal-is : (t : List ℕ) → length t ≡ 8 → inBase 10 (textDigits t) ≡ decimal (textDigits t)
-unfolding inBase decimal
-decimal-is t l = eight (λ t. inBase 10 (textDigits t) ≡ decimal (textDigits t)) (λ a b c d e f g h. refl) t l

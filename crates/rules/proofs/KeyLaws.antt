@@ -9,9 +9,9 @@ use lib.Dec.{leb, ltb}
 use lib.ListN.{length, take, drop, getD, List·getD-eq-default}
 use lib.Seq.{drop-drop, getD-drop}
 use borrow.Author.Tests.{lt-ltb, le-ltb, ltb-true, ltb-false, leb-true}
-use Rattle.laws.specs.Words.{if_then_else_, at}
+use Rattle.laws.specs.Words.{if_then_else_, at, sameList}
 use Rattle.laws.proofs.Lists.{and-l, and-r}
-use Rattle.rules.specs.Tables.{Medium, FaultKey, sameText, isMedium, isFault, mediumOf, faultOf, medium-water, fault-none}
+use Rattle.rules.specs.Tables.{Medium, FaultKey, isMedium, isFault, mediumOf, faultOf, medium-water, fault-none}
 use Rattle.rules.specs.Keys.{place, keysOf, KeyTable}
 
 -- ---- the search of a key
@@ -21,10 +21,10 @@ abbrev pub keyAt : List ℕ → ℕ → List ℕ
 keyAt bs k = take (at bs (k * 14)) (drop (k * 14 + 1) bs)
 
 -- as the program cuts it out
-pub key-same : (bs : List ℕ) (k w : ℕ) (t : List ℕ) {r : Bool} → w ≡ at bs (k * 14) → r ≡ sameText (take (k * 14 + 1 + w - (k * 14 + 1)) (drop (k * 14 + 1) bs)) t → r ≡ sameText (keyAt bs k) t
+pub key-same : (bs : List ℕ) (k w : ℕ) (t : List ℕ) {r : Bool} → w ≡ at bs (k * 14) → r ≡ sameList (take (k * 14 + 1 + w - (k * 14 + 1)) (drop (k * 14 + 1) bs)) t → r ≡ sameList (keyAt bs k) t
 key-same bs k w t e q =
     let d : k * 14 + 1 + w - (k * 14 + 1) ≡ at bs (k * 14) = omega arith in
-    q ∙ ap (λ (l : ℕ). sameText (take l (drop (k * 14 + 1) bs)) t) d
+    q ∙ ap (λ (l : ℕ). sameList (take l (drop (k * 14 + 1) bs)) t) d
 
 pub record KeyTo (bs : List ℕ) (n : ℕ) (t : List ℕ) (k : ℕ) : Type 0 where
   pub short : k ≤ n
@@ -34,7 +34,7 @@ pub key-none : (bs : List ℕ) (n : ℕ) (t : List ℕ) → KeyTo bs n t 0
 key-none bs n t = let q : n - 0 ≡ n = omega arith in record { short = omega arith; is = rw q (omega arith) }
 
 module _ {bs : List ℕ} {n : ℕ} {t : List ℕ} {k : ℕ} (s : KeyTo bs n t k) where
-  next-key : k < n → place (keysOf n bs) t ≡ k + (if sameText (keyAt bs k) t then 0 else suc (place (keysOf (n - (k + 1)) (drop ((k + 1) * 14) bs)) t))
+  next-key : k < n → place (keysOf n bs) t ≡ k + (if sameList (keyAt bs k) t then 0 else suc (place (keysOf (n - (k + 1)) (drop ((k + 1) * 14) bs)) t))
   unfolding keysOf
   next-key h =
       let q : n - k ≡ suc (n - (k + 1)) = omega arith in
@@ -42,14 +42,14 @@ module _ {bs : List ℕ} {n : ℕ} {t : List ℕ} {k : ℕ} (s : KeyTo bs n t k)
       let z : k * 14 + 0 ≡ k * 14 = omega arith in
       s .is
       ∙ ap (λ (m : ℕ). k + place (keysOf m (drop (k * 14) bs)) t) q
-      ∙ ap₂ (λ (key : List ℕ) (r : List ℕ). k + (if sameText key t then 0 else suc (place (keysOf (n - (k + 1)) r) t)))
+      ∙ ap₂ (λ (key : List ℕ) (r : List ℕ). k + (if sameList key t then 0 else suc (place (keysOf (n - (k + 1)) r) t)))
       (ap₂ (λ (l : ℕ) (r : List ℕ). take l r) (getD-drop (k * 14) bs 0 0 ∙ ap (at bs) z) (drop-drop 1 (k * 14) bs))
       (drop-drop 14 (k * 14) bs ∙ ap (λ (m : ℕ). drop m bs) a)
 
-  pub key-found : k < n → true ≡ sameText (keyAt bs k) t → k ≡ place (keysOf n bs) t
+  pub key-found : k < n → true ≡ sameList (keyAt bs k) t → k ≡ place (keysOf n bs) t
   key-found h q = sym (next-key h ∙ rw (← q) (omega arith))
 
-  pub key-more : k < n → false ≡ sameText (keyAt bs k) t → KeyTo bs n t (k + 1)
+  pub key-more : k < n → false ≡ sameList (keyAt bs k) t → KeyTo bs n t (k + 1)
   key-more h q = record { short = omega arith; is = next-key h ∙ rw (← q) (omega arith) }
 
   pub key-all : n ≤ k → n ≡ place (keysOf n bs) t
@@ -85,7 +85,7 @@ ltb-suc a b = go (ltb a b) refl
 
 pub is-medium : (rs : List Medium) (t : List ℕ) → isMedium rs t ≡ ltb (place (map (λ (r : Medium). r .key) rs) t) (length rs)
 is-medium [] t = refl
-is-medium (r ∷ rs) t = go (sameText (r .key) t) (is-medium rs t)
+is-medium (r ∷ rs) t = go (sameList (r .key) t) (is-medium rs t)
   where
     go : (b : Bool) → isMedium rs t ≡ ltb (place (map (λ (r : Medium). r .key) rs) t) (length rs)
         → b || isMedium rs t ≡ ltb (if b then 0 else suc (place (map (λ (r : Medium). r .key) rs) t)) (suc (length rs))
@@ -94,7 +94,7 @@ is-medium (r ∷ rs) t = go (sameText (r .key) t) (is-medium rs t)
 
 pub medium-of : (rs : List Medium) (t : List ℕ) → mediumOf rs t ≡ getD rs (place (map (λ (r : Medium). r .key) rs) t) medium-water
 medium-of [] t = refl
-medium-of (r ∷ rs) t = go (sameText (r .key) t) (medium-of rs t)
+medium-of (r ∷ rs) t = go (sameList (r .key) t) (medium-of rs t)
   where
     go : (b : Bool) → mediumOf rs t ≡ getD rs (place (map (λ (r : Medium). r .key) rs) t) medium-water
         → cond b r (mediumOf rs t) ≡ getD (r ∷ rs) (if b then 0 else suc (place (map (λ (r : Medium). r .key) rs) t)) medium-water
@@ -103,7 +103,7 @@ medium-of (r ∷ rs) t = go (sameText (r .key) t) (medium-of rs t)
 
 pub is-fault : (rs : List FaultKey) (t : List ℕ) → isFault rs t ≡ ltb (place (map (λ (r : FaultKey). r .key) rs) t) (length rs)
 is-fault [] t = refl
-is-fault (r ∷ rs) t = go (sameText (r .key) t) (is-fault rs t)
+is-fault (r ∷ rs) t = go (sameList (r .key) t) (is-fault rs t)
   where
     go : (b : Bool) → isFault rs t ≡ ltb (place (map (λ (r : FaultKey). r .key) rs) t) (length rs)
         → b || isFault rs t ≡ ltb (if b then 0 else suc (place (map (λ (r : FaultKey). r .key) rs) t)) (suc (length rs))
@@ -112,7 +112,7 @@ is-fault (r ∷ rs) t = go (sameText (r .key) t) (is-fault rs t)
 
 pub fault-of : (rs : List FaultKey) (t : List ℕ) → faultOf rs t ≡ getD rs (place (map (λ (r : FaultKey). r .key) rs) t) fault-none .fault
 fault-of [] t = refl
-fault-of (r ∷ rs) t = go (sameText (r .key) t) (fault-of rs t)
+fault-of (r ∷ rs) t = go (sameList (r .key) t) (fault-of rs t)
   where
     go : (b : Bool) → faultOf rs t ≡ getD rs (place (map (λ (r : FaultKey). r .key) rs) t) fault-none .fault
         → cond b (r .fault) (faultOf rs t) ≡ getD (r ∷ rs) (if b then 0 else suc (place (map (λ (r : FaultKey). r .key) rs) t)) fault-none .fault

@@ -10,10 +10,10 @@ use lib.Dec.{eqb, leb}
 use lib.ListN.{length, take, drop, length-drop, drop-of-length-le}
 use lib.Seq.{drop-cons, take-nil}
 use borrow.Author.Tests.{leb-true, leb-false, eq-eqb, ne-eqb, le-leb, lt-leb}
-use Rattle.laws.specs.Words.{at}
+use Rattle.laws.specs.Words.{at, sameList}
 use Rattle.laws.proofs.Copy.{take-min}
-use Rattle.rules.specs.Tables.{sameText, isRate}
-use Rattle.rules.specs.Check.{within}
+use Rattle.rules.specs.Tables.{isRate}
+use Rattle.rules.specs.Check.{allWithin}
 
 -- ---- the bytes of a text
 
@@ -40,7 +40,7 @@ pub and-false : (b : Bool) → b && false ≡ false
 and-false true = refl
 and-false false = refl
 
-pub differs : (a b : List ℕ) → (length b ≡ length a → ⊥) → false ≡ sameText a b
+pub differs : (a b : List ℕ) → (length b ≡ length a → ⊥) → false ≡ sameList a b
 differs [] [] h = absurd (h refl)
 differs [] (y ∷ ys) h = refl
 differs (x ∷ xs) [] h = refl
@@ -49,53 +49,53 @@ differs (x ∷ xs) (y ∷ ys) h = rw (← differs xs ys (λ e. h (ap suc e))) (s
 -- up to i the two are the same
 pub record SameTo (a b : List ℕ) (i : ℕ) : Type 0 where
   pub length-is : length b ≡ length a
-  pub within : i ≤ length a
-  pub is : sameText a b ≡ sameText (drop i a) (drop i b)
+  pub allWithin : i ≤ length a
+  pub is : sameList a b ≡ sameList (drop i a) (drop i b)
 
 pub same-none : (a b : List ℕ) → length b ≡ length a → SameTo a b 0
-same-none a b h = record { length-is = h; within = omega arith; is = refl }
+same-none a b h = record { length-is = h; allWithin = omega arith; is = refl }
 
 module _ {a b : List ℕ} {i : ℕ} (s : SameTo a b i) where
-  first : i < length a → sameText a b ≡ eqb (at a i) (at b i) && sameText (drop (suc i) a) (drop (suc i) b)
+  first : i < length a → sameList a b ≡ eqb (at a i) (at b i) && sameList (drop (suc i) a) (drop (suc i) b)
   first h =
       let k : i < length b = omega (arith, s .length-is) in
-      s .is ∙ ap₂ sameText (drop-cons a i 0 h) (drop-cons b i 0 k)
+      s .is ∙ ap₂ sameList (drop-cons a i 0 h) (drop-cons b i 0 k)
 
-  pub same-not : i < length a → (at a i ≡ at b i → ⊥) → false ≡ sameText a b
+  pub same-not : i < length a → (at a i ≡ at b i → ⊥) → false ≡ sameList a b
   same-not h q = sym (first h ∙ rw (ne-eqb (at a i) (at b i) q))
 
   pub same-more : i < length a → at a i ≡ at b i → SameTo a b (i + 1)
-  same-more h q = record { length-is = s .length-is; within = omega arith; is = rw add-one (first h ∙ rw (eq-eqb (at a i) (at b i) q)) }
+  same-more h q = record { length-is = s .length-is; allWithin = omega arith; is = rw add-one (first h ∙ rw (eq-eqb (at a i) (at b i) q)) }
 
-  pub same-all : length a ≤ i → true ≡ sameText a b
+  pub same-all : length a ≤ i → true ≡ sameList a b
   same-all h =
       let k : length b ≤ i = omega (arith, s .length-is) in
-      sym (s .is ∙ ap₂ sameText (drop-of-length-le a h) (drop-of-length-le b k))
+      sym (s .is ∙ ap₂ sameList (drop-of-length-le a h) (drop-of-length-le b k))
 
 -- ---- every byte between two
 
 pub record WithinTo (lo hi : ℕ) (t : List ℕ) (i : ℕ) : Type 0 where
   pub short : i ≤ length t
-  pub is : within lo hi t ≡ within lo hi (drop i t)
+  pub is : allWithin lo hi t ≡ allWithin lo hi (drop i t)
 
 pub within-none : (lo hi : ℕ) (t : List ℕ) → WithinTo lo hi t 0
 within-none lo hi t = record { short = omega arith; is = refl }
 
 module _ {lo hi : ℕ} {t : List ℕ} {i : ℕ} (s : WithinTo lo hi t i) where
-  first-byte : i < length t → within lo hi t ≡ leb lo (at t i) && leb (at t i) hi && within lo hi (drop (suc i) t)
-  first-byte h = s .is ∙ ap (within lo hi) (drop-cons t i 0 h)
+  first-byte : i < length t → allWithin lo hi t ≡ leb lo (at t i) && leb (at t i) hi && allWithin lo hi (drop (suc i) t)
+  first-byte h = s .is ∙ ap (allWithin lo hi) (drop-cons t i 0 h)
 
-  pub within-low : i < length t → at t i < lo → false ≡ within lo hi t
+  pub within-low : i < length t → at t i < lo → false ≡ allWithin lo hi t
   within-low h q = sym (first-byte h ∙ rw (lt-leb lo (at t i) q))
 
-  pub within-high : i < length t → lo ≤ at t i → hi < at t i → false ≡ within lo hi t
+  pub within-high : i < length t → lo ≤ at t i → hi < at t i → false ≡ allWithin lo hi t
   within-high h p q = sym (first-byte h ∙ rw (le-leb lo (at t i) p, lt-leb (at t i) hi q))
 
   pub within-more : i < length t → lo ≤ at t i → at t i ≤ hi → WithinTo lo hi t (i + 1)
   within-more h p q = record { short = omega arith; is = rw add-one (first-byte h ∙ rw (le-leb lo (at t i) p, le-leb (at t i) hi q)) }
 
-  pub within-all : length t ≤ i → true ≡ within lo hi t
-  within-all h = sym (s .is ∙ ap (within lo hi) (drop-of-length-le t h))
+  pub within-all : length t ≤ i → true ≡ allWithin lo hi t
+  within-all h = sym (s .is ∙ ap (allWithin lo hi) (drop-of-length-le t h))
 
 -- ---- one of the rates
 

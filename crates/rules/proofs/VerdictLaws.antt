@@ -10,18 +10,18 @@ use Rattle.laws.specs.Words.{if_then_else_}
 use Rattle.meter.specs.Meter.{rates}
 use Rattle.meter.specs.declared.Fault.{Fault}
 use Rattle.meter.specs.declared.Model.{Model}
-use Rattle.identity.specs.Identity.{makerCode, decimal}
+use Rattle.identity.specs.Identity.{makerCode, inBase}
 use Rattle.rules.specs.Tables.{Medium, media, faults, isMedium, isFault, isRate, mediumOf, faultOf, medium-water, fault-none}
 use Rattle.rules.specs.Keys.{place, mediaKeys, faultKeys}
 use Rattle.meter_list.specs.Layout.{Listed}
 use Rattle.rules.specs.Check.{textDigits, goodId, goodMaker, check}
-use Rattle.rules.specs.Checked.{inBase, valuesOf, failNumber, failingOf, checkedOf, CheckGives}
+use Rattle.rules.specs.Checked.{ownOf, valuesOf, failNumber, failingOf, checkedOf, CheckGives}
+use Rattle.rules.specs.declared.OwnBaud.{OwnBaud}
 use Rattle.rules.specs.declared.Values.{Values}
 use Rattle.rules.specs.declared.Failing.{Failing}
 use Rattle.rules.specs.declared.Failing.the-variants.{BadPrimary, BadId, BadManufacturer, BadMedium, BadBaud, BadFault}
 use Rattle.rules.specs.declared.Checked.the-variants.{Passes, Fails}
 use Rattle.rules.proofs.KeyLaws.{is-medium, medium-of, is-fault, fault-of}
-use Rattle.rules.proofs.CheckLaws.{id-length, decimal-is}
 
 -- the texts that the program has at hand are the record's
 pub record TextsOf (l : Listed) (i m d f : List ℕ) : Type 0 where
@@ -98,20 +98,20 @@ module _ (l : Listed) {i m d f : List ℕ} (t : TextsOf l i m d f) (h : l .prima
           unfolding faultKeys
           kind = ap (λ (x : ℕ). getD faults x fault-none .fault) (nf ∙ ap (place faultKeys) (t .fault)) ∙ sym (fault-of faults (l .fault))
 
-          values-are : {x y z w : ℕ} {u : Model} {v : Fault} → x ≡ inBase 16 (textDigits i) → y ≡ decimal (textDigits i) → z ≡ makerCode m
+          values-are : {o : OwnBaud} {x y z w : ℕ} {u : Model} {v : Fault} → o ≡ ownOf (l .baud) → x ≡ inBase 16 (textDigits i) → y ≡ inBase 10 (textDigits i) → z ≡ makerCode m
               → w ≡ mediumOf media (l .medium) .code → u ≡ mediumOf media (l .medium) .model → v ≡ faultOf faults (l .fault)
-              → _≡_ {A = Values} (record { primary = l .primary; version = l .version; baud = l .baud; id = x; number = y; manufacturer = z; medium = w; model = u; fault = v }) (valuesOf l)
+              → _≡_ {A = Values} (record { primary = l .primary; version = l .version; baud = o; id = x; number = y; manufacturer = z; medium = w; model = u; fault = v }) (valuesOf l)
           unfolding valuesOf
-          values-are p q r o j s = rw (p, q, r, o, j, s, t .id, t .manufacturer)
+          values-are b p q r o j s = rw (b, p, q, r, o, j, s, t .id, t .manufacturer)
 
-          pub gives-values : n < 7 → {x y z w : ℕ} {u : Model} {v : Fault} → x ≡ inBase 16 (textDigits i) → y ≡ inBase 10 (textDigits i) → z ≡ makerCode m
+          pub gives-values : n < 7 → {o : OwnBaud} {x y z w : ℕ} {u : Model} {v : Fault} → o ≡ ownOf (l .baud) → x ≡ inBase 16 (textDigits i) → y ≡ inBase 10 (textDigits i) → z ≡ makerCode m
               → w ≡ getD media k medium-water .code → u ≡ getD media k medium-water .model → v ≡ getD faults n fault-none .fault
-              → CheckGives l (Passes (record { primary = l .primary; version = l .version; baud = l .baud; id = x; number = y; manufacturer = z; medium = w; model = u; fault = v }))
-          gives-values g p q r o j s =
+              → CheckGives l (Passes (record { primary = l .primary; version = l .version; baud = o; id = x; number = y; manufacturer = z; medium = w; model = u; fault = v }))
+          gives-values g b p q r o j s =
               record {
                 number = sym (passes g);
                 is =
-                    ap Passes (values-are p (q ∙ decimal-is i (id-length i a)) r (o ∙ ap (λ (x : Medium). x .code) row) (j ∙ ap (λ (x : Medium). x .model) row) (s ∙ kind))
+                    ap Passes (values-are b p q r (o ∙ ap (λ (x : Medium). x .code) row) (j ∙ ap (λ (x : Medium). x .model) row) (s ∙ kind))
                     ∙ checked-passes l (passes g);
               }
 

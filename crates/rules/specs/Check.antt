@@ -4,15 +4,15 @@ use mathlib.Core.List.{List, [], _∷_, map}
 use Prim.Native.Nat.{ℕ, _-_}
 use lib.Dec.{eqb, leb, ltb}
 use lib.ListN.{length}
-use Rattle.laws.specs.Words.{if_then_else_}
+use Rattle.laws.specs.Words.{if_then_else_, sameList}
 use Rattle.meter.specs.Meter.{rates}
-use Rattle.rules.specs.Tables.{sameText, media, faults, isMedium, isFault, isRate, medium-heat-old}
+use Rattle.rules.specs.Tables.{media, faults, isMedium, isFault, isRate, medium-heat-old}
 use Rattle.meter_list.specs.Layout.{Listed}
 
 -- every byte lies between two
-abbrev pub within : ℕ → ℕ → List ℕ → Bool
-within lo hi [] = true
-within lo hi (b ∷ bs) = leb lo b && leb b hi && within lo hi bs
+abbrev pub allWithin : ℕ → ℕ → List ℕ → Bool
+allWithin lo hi [] = true
+allWithin lo hi (b ∷ bs) = leb lo b && leb b hi && allWithin lo hi bs
 
 -- the digits of an id's text: "The id's digits are its BCD nibbles"
 abbrev pub textDigits : List ℕ → List ℕ
@@ -20,11 +20,11 @@ textDigits t = map (λ c. c - 0x30) t
 
 -- ID must have 8 digits
 unfoldable pub goodId : List ℕ → Bool
-goodId t = eqb (length t) 8 && within 0x30 0x39 t
+goodId t = eqb (length t) 8 && allWithin 0x30 0x39 t
 
 -- three capital letters. "An empty manufacturer passes only for heat_old", by the record's own medium text
 unfoldable pub goodMaker : List ℕ → List ℕ → Bool
-goodMaker t medium = (eqb (length t) 3 && within 0x41 0x5A t) || (eqb (length t) 0 && sameText (medium-heat-old .key) medium)
+goodMaker t medium = (eqb (length t) 3 && allWithin 0x41 0x5A t) || (eqb (length t) 0 && sameList (medium-heat-old .key) medium)
 
 -- "primary over 250; id; manufacturer; medium; own baud; fault". An own baud of 0 is the bus's
 unfoldable pub check : Listed → ℕ

@@ -1,23 +1,24 @@
 -- What the program's `check` gives: the values of a record that passes, or what it fails with.
 use mathlib.Core.Path.{_≡_}
 use mathlib.Core.List.{List}
-use Prim.Native.Nat.{ℕ, _+_, _*_}
+use Prim.Native.Nat.{ℕ}
 use lib.Dec.{eqb}
 use Rattle.laws.specs.Words.{if_then_else_}
-use Rattle.laws.specs.Sweep.{fold}
-use Rattle.identity.specs.Identity.{makerCode, decimal}
+use Rattle.identity.specs.Identity.{makerCode, inBase, decimal}
 use Rattle.rules.specs.Tables.{media, faults, mediumOf, faultOf}
 use Rattle.meter_list.specs.Layout.{Listed}
 use Rattle.rules.specs.Check.{textDigits, check}
+use Rattle.rules.specs.declared.OwnBaud.{OwnBaud}
+use Rattle.rules.specs.declared.OwnBaud.the-variants.{AsBus, Own}
 use Rattle.rules.specs.declared.Values.{Values}
 use Rattle.rules.specs.declared.Failing.{Failing}
 use Rattle.rules.specs.declared.Failing.the-variants.{BadPrimary, BadId, BadManufacturer, BadMedium, BadBaud, BadFault}
 use Rattle.rules.specs.declared.Checked.{Checked}
 use Rattle.rules.specs.declared.Checked.the-variants.{Passes, Fails}
 
--- digits as a number in a base, most significant first
-unfoldable pub inBase : ℕ → List ℕ → ℕ
-inBase b ds = fold (λ (n : ℕ) (d : ℕ). n * b + d) 0 ds
+-- own baud in a record: "0 = the bus's at opening"
+abbrev pub ownOf : ℕ → OwnBaud
+ownOf baud = if eqb baud 0 then AsBus else Own baud
 
 -- the values that a record's texts stand for; the id once as BCD nibbles, once as a decimal number
 unfoldable pub valuesOf : Listed → Values
@@ -25,7 +26,7 @@ valuesOf r =
     record {
       primary = r .primary;
       version = r .version;
-      baud = r .baud;
+      baud = ownOf (r .baud);
       id = inBase 16 (textDigits (r .id));
       number = decimal (textDigits (r .id));
       manufacturer = makerCode (r .manufacturer);

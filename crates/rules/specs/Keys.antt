@@ -3,13 +3,13 @@ use mathlib.Core.Path.{_≡_}
 use mathlib.Core.List.{List, [], _∷_, map}
 use Prim.Native.Nat.{ℕ, zero, suc, _*_, _≤_, _<_}
 use lib.ListN.{length, take, drop}
-use Rattle.laws.specs.Words.{if_then_else_, at}
-use Rattle.rules.specs.Tables.{Medium, FaultKey, sameText, media, faults}
+use Rattle.laws.specs.Words.{if_then_else_, at, sameList}
+use Rattle.rules.specs.Tables.{Medium, FaultKey, media, faults}
 
 -- the place of a text among keys; their number, if it is none of them
 abbrev pub place : List (List ℕ) → List ℕ → ℕ
 place [] t = 0
-place (k ∷ ks) t = if sameText k t then 0 else suc (place ks t)
+place (k ∷ ks) t = if sameList k t then 0 else suc (place ks t)
 
 -- the keys of a table's bytes
 unfoldable pub keysOf : ℕ → List ℕ → List (List ℕ)

@@ -3,18 +3,11 @@ use mathlib.Core.Bool.{Bool, true, false, _&&_, _||_}
 use mathlib.Core.List.{List, [], _∷_}
 use Prim.Native.Nat.{ℕ}
 use lib.Dec.{eqb}
-use Rattle.laws.specs.Words.{if_then_else_}
+use Rattle.laws.specs.Words.{if_then_else_, sameList}
 use Rattle.meter.specs.declared.Fault.{Fault}
 use Rattle.meter.specs.declared.Fault.the-variants.{None, Checksum, Truncated, Busy, WrongAddress, Flaky, TooMany}
 use Rattle.meter.specs.declared.Model.{Model}
 use Rattle.meter.specs.declared.Model.the-variants.{Heat, Electricity, Water, Fixed}
-
--- the same text, byte by byte
-abbrev pub sameText : List ℕ → List ℕ → Bool
-sameText [] [] = true
-sameText [] (y ∷ ys) = false
-sameText (x ∷ xs) [] = false
-sameText (x ∷ xs) (y ∷ ys) = eqb x y && sameText xs ys
 
 -- a row of MEDIA: the key, the code in the telegram, and how the meter replies
 pub record Medium : Type 0 where
@@ -98,20 +91,20 @@ faults = fault-none ∷ fault-checksum ∷ fault-truncated ∷ fault-busy ∷ fa
 -- is the key in the table
 abbrev pub isMedium : List Medium → List ℕ → Bool
 isMedium [] t = false
-isMedium (r ∷ rs) t = sameText (r .key) t || isMedium rs t
+isMedium (r ∷ rs) t = sameList (r .key) t || isMedium rs t
 
 abbrev pub isFault : List FaultKey → List ℕ → Bool
 isFault [] t = false
-isFault (r ∷ rs) t = sameText (r .key) t || isFault rs t
+isFault (r ∷ rs) t = sameList (r .key) t || isFault rs t
 
 -- a key's row. For a key that is not there `check` refuses the record; here, as in the Rust, it is water, and no fault
 abbrev pub mediumOf : List Medium → List ℕ → Medium
 mediumOf [] t = medium-water
-mediumOf (r ∷ rs) t = if sameText (r .key) t then r else mediumOf rs t
+mediumOf (r ∷ rs) t = if sameList (r .key) t then r else mediumOf rs t
 
 abbrev pub faultOf : List FaultKey → List ℕ → Fault
 faultOf [] t = None
-faultOf (r ∷ rs) t = if sameText (r .key) t then r .fault else faultOf rs t
+faultOf (r ∷ rs) t = if sameList (r .key) t then r .fault else faultOf rs t
 
 -- "baud not one of eight"
 abbrev pub isRate : List ℕ → ℕ → Bool

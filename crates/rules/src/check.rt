@@ -7,9 +7,11 @@ ghost use Rattle.meter.specs.Meter.{rates};
 ghost use Rattle.rules.specs.Tables.{isRate};
 ghost use Rattle.rules.specs.Check.{goodId, goodMaker, textDigits};
 ghost use Rattle.meter_list.specs.Reading.{listedOf};
-ghost use Rattle.rules.specs.Checked.{inBase, CheckGives};
+ghost use Rattle.identity.specs.Identity.{inBase};
+ghost use Rattle.rules.specs.Checked.{ownOf, CheckGives};
 use super::Checked;
 use super::Failing;
+use super::OwnBaud;
 use super::Values;
 use super::tables::fault_kind;
 use super::tables::find_fault;
@@ -54,6 +56,16 @@ fn good_baud(baud: u32) -> bool
         return true;
     }
     is_rate(baud)
+}
+
+// 0 is the bus's at opening.
+fn own_baud(baud: u32) -> OwnBaud
+    ensures { λ r. ⌜ r ≡ ownOf baud ⌝ }
+{
+    if baud == 0 {
+        return OwnBaud::AsBus;
+    }
+    OwnBaud::Own(baud)
 }
 
 // A digit's value.
@@ -109,7 +121,7 @@ pub fn check(list: &[u8], r: Listed) -> Checked
     Checked::Passes(Values {
         primary: r.primary,
         version: r.version,
-        baud: r.baud,
+        baud: own_baud(r.baud),
         id: digits_in(16, id),
         number: digits_in(10, id),
         manufacturer: manufacturer_code(manufacturer),

@@ -16,11 +16,17 @@ pub enum Failing {
     BadFault,
 }
 
+// The own baud of a record: the bus's at opening, or one of its own.
+pub enum OwnBaud {
+    AsBus,
+    Own(u32),
+}
+
 // The values of a record that passes. `id` has the id's digits as nibbles, `number` is the id as a decimal number.
 pub struct Values {
     pub primary: u8,
     pub version: u8,
-    pub baud: u32,
+    pub baud: OwnBaud,
     pub id: u32,
     pub number: u32,
     pub manufacturer: u16,

@@ -1,7 +1,7 @@
 // Texts as slices of the list, compared and read.
 ghost use mathlib.Core.Path.{_≡_};
-ghost use Rattle.rules.specs.Tables.{sameText};
-ghost use Rattle.rules.specs.Check.{within};
+ghost use Rattle.laws.specs.Words.{sameList};
+ghost use Rattle.rules.specs.Check.{allWithin};
 ghost use Rattle.meter_list.specs.Reading.{textOf};
 use laws::least;
 use meter_list::Text;
@@ -19,7 +19,7 @@ pub(crate) fn text<'a>(list: &'a [u8], t: Text) -> &'a [u8]
 
 // The same bytes.
 pub(crate) fn same_text(a: &[u8], b: &[u8]) -> bool
-    ensures { λ r. ⌜ r ≡ sameText (now (a .entry)) (now (b .entry)) ⌝ }
+    ensures { λ r. ⌜ r ≡ sameList (now (a .entry)) (now (b .entry)) ⌝ }
 {
     let n = a.len();
     if b.len() != n {
@@ -37,7 +37,7 @@ pub(crate) fn same_text(a: &[u8], b: &[u8]) -> bool
 
 // Every byte lies between two.
 pub(crate) fn all_within(lo: u8, hi: u8, t: &[u8]) -> bool
-    ensures { λ r. ⌜ r ≡ within lo hi (now (t .entry)) ⌝ }
+    ensures { λ r. ⌜ r ≡ allWithin lo hi (now (t .entry)) ⌝ }
 {
     let n = t.len();
     let mut i: usize = 0;

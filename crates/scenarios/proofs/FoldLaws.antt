@@ -6,11 +6,12 @@ use Prim.Native.Nat.{ℕ, zero, suc, _+_, _≤_}
 use native.Mathlib.Omega.{arith}
 use lib.ListN.{length, take, drop}
 use lib.Seq.{take-all}
+use Rattle.scenarios.specs.Opening.{mostMeters}
 use Rattle.laws.specs.Sweep.{fold}
 use Rattle.meter_list.specs.Layout.{Listed, Layout, fits, noFit}
 use Rattle.meter_list.specs.Reading.{listedOf, stepAt, atOf}
 use Rattle.rules.specs.Checked.{checkedOf}
-use Rattle.scenarios.specs.Gather.{noMeters, joined, admitted, standsAt, gathered, gatheredOf}
+use Rattle.scenarios.specs.Gather.{noMeters, withRecord, admitted, standsAt, gathered, gatheredOf}
 use Rattle.meter_list.specs.declared.Step.{Step}
 use Rattle.meter_list.specs.declared.Step.the-variants.{Record, Bad, End}
 use Rattle.refusals.specs.declared.Refusal.the-variants.{Accepted}
@@ -49,7 +50,7 @@ fold-snoc g s (x ∷ xs) y = fold-snoc g (g s x) xs y
 
 -- the records of a list, taken in one after another
 abbrev pub takeIn : ℕ → Bool → Meters → Listed → Meters
-takeIn bus practice a r = joined bus practice a (checkedOf r)
+takeIn bus practice a r = withRecord bus practice a (checkedOf r)
 
 module _ (s : List ℕ) (bus : ℕ) (practice : Bool) (rs : List Listed) (whole : readFrom s 3 ≡ fits rs) where
   -- after k steps
@@ -92,6 +93,6 @@ module _ (s : List ℕ) (bus : ℕ) (practice : Bool) (rs : List Listed) (whole 
   after zero = record { meters = refl; left = whole }
   after (suc k) = after-step k (after k) (stepAt s (standsAt s k)) refl
 
-  pub gathered-all : length rs ≤ 64 → gatheredOf s bus practice ≡ fold (takeIn bus practice) (noMeters Accepted) rs
+  pub gathered-all : length rs ≤ mostMeters → gatheredOf s bus practice ≡ fold (takeIn bus practice) (noMeters Accepted) rs
   unfolding gatheredOf
-  gathered-all h = after 64 .meters ∙ ap (fold (takeIn bus practice) (noMeters Accepted)) (take-all 64 rs h)
+  gathered-all h = after mostMeters .meters ∙ ap (fold (takeIn bus practice) (noMeters Accepted)) (take-all mostMeters rs h)

@@ -6,11 +6,12 @@ use Prim.Native.Nat.{ℕ, _+_, _≤_, _<_}
 use native.Mathlib.Numerals.{add-one}
 use lib.ListN.{set, replicate}
 use borrow.Author.Tests.{lt-ltb, le-ltb}
+use Rattle.scenarios.specs.Opening.{mostMeters}
 use Rattle.laws.specs.Words.{if_then_else_}
 use Rattle.meter.specs.declared.Meter.{Meter}
 use Rattle.meter_list.specs.Reading.{listedOf, stepAt, atOf}
 use Rattle.rules.specs.Checked.{checkedOf}
-use Rattle.scenarios.specs.Gather.{spare, noMeters, put, joined, admitted, standsAt, gathered, gatheredOf}
+use Rattle.scenarios.specs.Gather.{spare, noMeters, withMeter, withRecord, admitted, standsAt, gathered, gatheredOf}
 use Rattle.refusals.specs.Refusals.{isAccepted}
 use Rattle.fresh_meter.specs.FreshOf.{freshOf}
 use Rattle.meter_list.specs.declared.Listed.{Listed as Placed}
@@ -24,24 +25,24 @@ use Rattle.refusals.specs.declared.Refusal.{Refusal}
 use Rattle.refusals.specs.declared.Refusal.the-variants.{Accepted, AtRecord}
 use Rattle.scenarios.specs.declared.Meters.{Meters}
 
-pub none-is : (r : Refusal) {m : Meter} → m ≡ spare → _≡_ {A = Meters} (record { refusal = r; meters = replicate 64 m; count = 0 }) (noMeters r)
+pub none-is : (r : Refusal) {m : Meter} → m ≡ spare → _≡_ {A = Meters} (record { refusal = r; meters = replicate mostMeters m; count = 0 }) (noMeters r)
 unfolding noMeters
-none-is r e = ap (λ (m : Meter). record { refusal = r; meters = replicate 64 m; count = 0 }) e
+none-is r e = ap (λ (m : Meter). record { refusal = r; meters = replicate mostMeters m; count = 0 }) e
 
 -- ---- one step of the reader
 
 module _ (bus : ℕ) (practice : Bool) (a : Meters) where
-  join-pass : (v : Values) → isAccepted (a .refusal) ≡ true → put a (freshOf bus practice v) ≡ joined bus practice a (Passes v)
-  unfolding joined
-  join-pass v h = sym (ap (λ (b : Bool). if b then put a (freshOf bus practice v) else a) h)
+  join-pass : (v : Values) → isAccepted (a .refusal) ≡ true → withMeter a (freshOf bus practice v) ≡ withRecord bus practice a (Passes v)
+  unfolding withRecord
+  join-pass v h = sym (ap (λ (b : Bool). if b then withMeter a (freshOf bus practice v) else a) h)
 
-  join-fail : (f : Failing) → isAccepted (a .refusal) ≡ true → noMeters (AtRecord f (a .count)) ≡ joined bus practice a (Fails f)
-  unfolding joined
+  join-fail : (f : Failing) → isAccepted (a .refusal) ≡ true → noMeters (AtRecord f (a .count)) ≡ withRecord bus practice a (Fails f)
+  unfolding withRecord
   join-fail f h = sym (ap (λ (b : Bool). if b then noMeters (AtRecord f (a .count)) else a) h)
 
-  pub join-kept : (c : Checked) → isAccepted (a .refusal) ≡ false → a ≡ joined bus practice a c
-  unfolding joined
-  join-kept (Passes v) h = sym (ap (λ (b : Bool). if b then put a (freshOf bus practice v) else a) h)
+  pub join-kept : (c : Checked) → isAccepted (a .refusal) ≡ false → a ≡ withRecord bus practice a c
+  unfolding withRecord
+  join-kept (Passes v) h = sym (ap (λ (b : Bool). if b then withMeter a (freshOf bus practice v) else a) h)
   join-kept (Fails f) h = sym (ap (λ (b : Bool). if b then noMeters (AtRecord f (a .count)) else a) h)
 
   module _ (s : List ℕ) {t : Step} where
@@ -54,9 +55,9 @@ module _ (bus : ℕ) (practice : Bool) (a : Meters) where
     admit-end e = ap (admitted s bus practice a) (sym e)
 
     module _ {p : Placed} {n : ℕ} (e : t ≡ Record p n) where
-      admit-record : {c : Checked} {r : Meters} → c ≡ checkedOf (listedOf s p) → r ≡ joined bus practice a c → r ≡ admitted s bus practice a t
+      admit-record : {c : Checked} {r : Meters} → c ≡ checkedOf (listedOf s p) → r ≡ withRecord bus practice a c → r ≡ admitted s bus practice a t
       unfolding admitted
-      admit-record q h = h ∙ ap (joined bus practice a) q ∙ ap (admitted s bus practice a) (sym e)
+      admit-record q h = h ∙ ap (withRecord bus practice a) q ∙ ap (admitted s bus practice a) (sym e)
 
       -- refused before
       pub admit-kept : isAccepted (a .refusal) ≡ false → a ≡ admitted s bus practice a t
@@ -64,22 +65,22 @@ module _ (bus : ℕ) (practice : Bool) (a : Meters) where
 
       module _ (h : isAccepted (a .refusal) ≡ true) {c : Checked} (q : c ≡ checkedOf (listedOf s p)) where
         pub admit-fail : {f : Failing} {r : Meters} → c ≡ Fails f → r ≡ noMeters (AtRecord f (a .count)) → r ≡ admitted s bus practice a t
-        admit-fail {f} k w = admit-record q (w ∙ join-fail f h ∙ ap (joined bus practice a) (sym k))
+        admit-fail {f} k w = admit-record q (w ∙ join-fail f h ∙ ap (withRecord bus practice a) (sym k))
 
         module _ {v : Values} (k : c ≡ Passes v) where
-          admit-pass : {r : Meters} → r ≡ put a (freshOf bus practice v) → r ≡ admitted s bus practice a t
-          admit-pass w = admit-record q (w ∙ join-pass v h ∙ ap (joined bus practice a) (sym k))
+          admit-pass : {r : Meters} → r ≡ withMeter a (freshOf bus practice v) → r ≡ admitted s bus practice a t
+          admit-pass w = admit-record q (w ∙ join-pass v h ∙ ap (withRecord bus practice a) (sym k))
 
-          pub admit-put : {m : Meter} → a .count < 64 → m ≡ freshOf bus practice v
+          pub admit-put : {m : Meter} → a .count < mostMeters → m ≡ freshOf bus practice v
               → _≡_ {A = Meters} (record { refusal = a .refusal; meters = set (a .meters) (a .count) m; count = a .count + 1 }) (admitted s bus practice a t)
-          unfolding put
+          unfolding withMeter
           admit-put {m} l w =
-              admit-pass (ap (λ (x : Meter). record { refusal = a .refusal; meters = set (a .meters) (a .count) x; count = a .count + 1 }) w ∙ rw (lt-ltb (a .count) 64 l))
+              admit-pass (ap (λ (x : Meter). record { refusal = a .refusal; meters = set (a .meters) (a .count) x; count = a .count + 1 }) w ∙ rw (lt-ltb (a .count) mostMeters l))
 
           -- there is no room
-          pub admit-full : 64 ≤ a .count → a ≡ admitted s bus practice a t
-          unfolding put
-          admit-full l = admit-pass (rw (le-ltb (a .count) 64 l))
+          pub admit-full : mostMeters ≤ a .count → a ≡ admitted s bus practice a t
+          unfolding withMeter
+          admit-full l = admit-pass (rw (le-ltb (a .count) mostMeters l))
 
 -- ---- one step more
 
@@ -99,6 +100,6 @@ pub gathered-next : (s : List ℕ) (bus : ℕ) (practice : Bool) (i : ℕ) → a
 unfolding gathered
 gathered-next s bus practice i = ap (gathered s bus practice) (sym (add-one i))
 
-pub gathered-is : (s : List ℕ) (bus : ℕ) (practice : Bool) → gathered s bus practice 64 ≡ gatheredOf s bus practice
+pub gathered-is : (s : List ℕ) (bus : ℕ) (practice : Bool) → gathered s bus practice mostMeters ≡ gatheredOf s bus practice
 unfolding gatheredOf
 gathered-is s bus practice = refl

@@ -15,9 +15,9 @@ use Rattle.meter.specs.View.{plainMeter}
 use Rattle.rules.specs.Tables.{isRate}
 use Rattle.meter_list.specs.Layout.{Listed, Layout, fits, noFit, readRecords}
 use Rattle.rules.specs.Check.{allPass}
-use Rattle.scenarios.specs.Opening.{capacity, Opened, opens, refuses, refusesRecord, metersIn, OpeningGives, openRecords, openList}
+use Rattle.scenarios.specs.Opening.{mostMeters, capacity, Opened, opens, refuses, refusesRecord, metersIn, OpeningGives, openRecords, openList}
 use Rattle.fresh_meter.specs.Fresh.{fresh}
-use Rattle.meter_list.specs.Reading.{countOf, shapeOf}
+use Rattle.meter_list.specs.Reading.{shapeOfCount, shapeOf}
 use Rattle.scenarios.specs.Gather.{spare, noMeters, gatheredOf}
 use Rattle.refusals.specs.Refusals.{isAccepted}
 use Rattle.scenarios.specs.Given.{MetersGiven}
@@ -43,12 +43,12 @@ pub by-shape : (bs : List ℕ) (bus : ℕ) (practice : Bool) {s : Shape} → s �
 unfolding shapeOf openList openRecords
 by-shape bs bus practice {s} e = subst (ByShape bs bus practice) (sym e) (first (ltb (length bs) 3 || not (eqb (at bs 0) 1)) refl (not (eqb (at bs 1 * 256 + at bs 2) (length bs - 3))) refl)
   where
-    records : (l : Layout) → readFrom bs 3 ≡ l → openList bs bus practice ≡ openRecords bus practice l → ByShape bs bus practice (countOf l)
+    records : (l : Layout) → readFrom bs 3 ≡ l → openList bs bus practice ≡ openRecords bus practice l → ByShape bs bus practice (shapeOfCount l)
     records noFit f o = o
     records (fits rs) f o = (rs, f, refl, o)
 
     first : (a : Bool) → ltb (length bs) 3 || not (eqb (at bs 0) 1) ≡ a → (b : Bool) → not (eqb (at bs 1 * 256 + at bs 2) (length bs - 3)) ≡ b
-        → ByShape bs bus practice (if a then Unversioned else (if b then Unfit else countOf (readRecords (length bs) (drop 3 bs))))
+        → ByShape bs bus practice (if a then Unversioned else (if b then Unfit else shapeOfCount (readRecords (length bs) (drop 3 bs))))
     first true p b q = rw p
     first false p true q = rw (p, q)
     first false p false q = records (readFrom bs 3) refl (rw (p, q))
@@ -66,12 +66,12 @@ given-refused bs bus practice r {a} e o i =
       meters = ap metersIn (sym o);
     }
 
-pub given-over : (bs : List ℕ) (bus : ℕ) (practice : Bool) {n : ℕ} {a : Meters} → Fits n ≡ shapeOf bs → 64 < n → a ≡ noMeters Capacity → MetersGiven bs bus practice a
+pub given-over : (bs : List ℕ) (bus : ℕ) (practice : Bool) {n : ℕ} {a : Meters} → Fits n ≡ shapeOf bs → mostMeters < n → a ≡ noMeters Capacity → MetersGiven bs bus practice a
 unfolding openRecords capacity
 given-over bs bus practice {n} e h q =
     let s = by-shape bs bus practice e in
-    let m : 64 < length (s .0) = omega (arith, s .2) in
-    given-refused bs bus practice Capacity q (s .3 ∙ rw (lt-ltb 64 (length (s .0)) m)) refl
+    let m : mostMeters < length (s .0) = omega (arith, s .2) in
+    given-refused bs bus practice Capacity q (s .3 ∙ rw (lt-ltb mostMeters (length (s .0)) m)) refl
 
 -- ---- the bus baud
 
@@ -98,17 +98,17 @@ module _ (bus : ℕ) (a : Meters) where
 
 -- ---- the records
 
-module _ (bs : List ℕ) (bus : ℕ) (practice : Bool) (rs : List Listed) (opened : openList bs bus practice ≡ openRecords bus practice (fits rs)) (few : length rs ≤ 64) where
+module _ (bs : List ℕ) (bus : ℕ) (practice : Bool) (rs : List Listed) (opened : openList bs bus practice ≡ openRecords bus practice (fits rs)) (few : length rs ≤ mostMeters) where
   abbrev all : Meters
   all = fold (takeIn bus practice) (noMeters Accepted) rs
 
   under : Under (noMeters Accepted) (length rs)
   unfolding noMeters
-  under = record { accepted = refl; places = length-replicate 64 spare; room = rw zero-add few }
+  under = record { accepted = refl; places = length-replicate mostMeters spare; room = rw zero-add few }
 
   over-not : ltb capacity (length rs) ≡ false
   unfolding capacity
-  over-not = le-ltb 64 (length rs) few
+  over-not = le-ltb mostMeters (length rs) few
 
   abbrev Given : Meters → Type 0
   Given = MetersGiven bs bus practice
@@ -162,8 +162,8 @@ module _ (bs : List ℕ) (bus : ℕ) (practice : Bool) (rs : List Listed) (opene
       go true h false k = given-baud h k
       go true h true k = given-opened h k
 
-pub given-records : (bs : List ℕ) (bus : ℕ) (practice : Bool) {n : ℕ} {a g : Meters} → Fits n ≡ shapeOf bs → n ≤ 64 → g ≡ gatheredOf bs bus practice → a ≡ rated bus g → MetersGiven bs bus practice a
+pub given-records : (bs : List ℕ) (bus : ℕ) (practice : Bool) {n : ℕ} {a g : Meters} → Fits n ≡ shapeOf bs → n ≤ mostMeters → g ≡ gatheredOf bs bus practice → a ≡ rated bus g → MetersGiven bs bus practice a
 given-records bs bus practice {n} {a} {g} e h q r =
     let s = by-shape bs bus practice e in
-    let few : length (s .0) ≤ 64 = omega (arith, s .2) in
+    let few : length (s .0) ≤ mostMeters = omega (arith, s .2) in
     subst (MetersGiven bs bus practice) (sym (r ∙ ap (rated bus) (q ∙ gathered-all bs bus practice (s .0) (s .1) few))) (given-all bs bus practice (s .0) (s .3) few)

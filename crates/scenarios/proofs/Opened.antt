@@ -5,7 +5,7 @@ use mathlib.Core.List.{[], _∷_}
 use Prim.Native.Nat.{ℕ}
 use lib.ListN.{length}
 use Rattle.meter.specs.Meter.{rates}
-use Rattle.identity.specs.Identity.{decimal}
+use Rattle.identity.specs.Identity.{inBase}
 use Rattle.rules.specs.Tables.{media, faults}
 use Rattle.builtins.specs.Builtins.{praxis, ok10, mfh30, bauds}
 use Rattle.meter_list.specs.Layout.{readTexts, readRecords}
@@ -36,5 +36,5 @@ bauds-opens = record { is = refl; count = refl }
 
 -- (i) id 12345678: seed 43,672
 pub seed-i : seedOf false (1 ∷ 2 ∷ 3 ∷ 4 ∷ 5 ∷ 6 ∷ 7 ∷ 8 ∷ []) ≡ 43672
-unfolding seedOf decimal
+unfolding seedOf inBase
 seed-i = refl

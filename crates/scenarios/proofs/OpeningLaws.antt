@@ -1,4 +1,4 @@
--- Opened meters are at most as many as may be, and each has an id of eight digits below ten.
+-- The capacity; opened meters are at most as many, and each has an id of eight digits below ten.
 use mathlib.Core.Path.{_≡_, refl}
 use mathlib.Core.Bool.{Bool, true, false, _&&_, _||_, not}
 use mathlib.Core.List.{List, [], _∷_, map}
@@ -14,8 +14,13 @@ use Rattle.rules.specs.Tables.{isRate}
 use Rattle.meter_list.specs.Layout.{Listed, Layout, fits, noFit, readRecords}
 use Rattle.rules.specs.Check.{check, allPass}
 use Rattle.fresh_meter.proofs.IdLaws.{EightDigits, goodId-digits, check-id}
-use Rattle.scenarios.specs.Opening.{capacity, Opened, opens, refuses, refusesRecord, openRecords, openList}
+use Rattle.scenarios.specs.Opening.{mostMeters, capacity, Opened, opens, refuses, refusesRecord, openRecords, openList}
 use Rattle.fresh_meter.specs.Fresh.{fresh}
+
+-- the capacity, as a number
+pub capacity-is : mostMeters ≡ capacity
+unfolding capacity
+capacity-is = refl
 
 pass-fresh : (bus : ℕ) (practice : Bool) (rs : List Listed) → allPass rs ≡ true → Every (λ m. EightDigits (m .digits)) (map (fresh bus practice) rs)
 unfolding fresh

@@ -10,6 +10,7 @@ use lib.Dec.{eqb}
 use lib.ListN.{length, take, set, length-set}
 use lib.Seq.{take-suc-set}
 use borrow.Author.Tests.{lt-ltb, eqb-true, eqb-false, ne-eqb}
+use Rattle.scenarios.specs.Opening.{mostMeters}
 use Rattle.laws.specs.Words.{if_then_else_}
 use Rattle.laws.specs.Sweep.{fold}
 use Rattle.laws.proofs.Lists.{and-l, and-r}
@@ -19,7 +20,7 @@ use Rattle.meter_list.specs.Layout.{Listed}
 use Rattle.rules.specs.Check.{check, allPass}
 use Rattle.fresh_meter.specs.Fresh.{fresh}
 use Rattle.rules.specs.Checked.{valuesOf, failingOf, checkedOf}
-use Rattle.scenarios.specs.Gather.{noMeters, put, joined}
+use Rattle.scenarios.specs.Gather.{noMeters, withMeter, withRecord}
 use Rattle.refusals.specs.Refusals.{isAccepted}
 use Rattle.fresh_meter.specs.FreshOf.{freshOf}
 use Rattle.refusals.specs.Refusals.{refusalNumber, refusalIndex}
@@ -40,34 +41,34 @@ soFar a = map plainMeter (take (a .count) (a .meters))
 -- an opening under way, with room for n records more
 pub record Under (a : Meters) (n : ℕ) : Type 0 where
   pub accepted : a .refusal ≡ Accepted
-  pub places : length (a .meters) ≡ 64
-  pub room : a .count + n ≤ 64
+  pub places : length (a .meters) ≡ mostMeters
+  pub room : a .count + n ≤ mostMeters
 
 module _ (bus : ℕ) (practice : Bool) where
   -- ---- one record
 
   passed : (a : Meters) (r : Listed) (n : ℕ) → Under a (suc n) → check r ≡ 0
       → takeIn bus practice a r ≡ record { refusal = a .refusal; meters = set (a .meters) (a .count) (freshOf bus practice (valuesOf r)); count = a .count + 1 }
-  unfolding checkedOf joined put
+  unfolding checkedOf withRecord withMeter
   passed a r n u h =
-      let m : a .count < 64 = omega (arith, u .room) in
+      let m : a .count < mostMeters = omega (arith, u .room) in
       let c : checkedOf r ≡ Passes (valuesOf r) = rw h in
-      ap (joined bus practice a) c
-      ∙ ap (λ (x : Refusal). if isAccepted x then put a (freshOf bus practice (valuesOf r)) else a) (u .accepted)
-      ∙ rw (lt-ltb (a .count) 64 m)
+      ap (withRecord bus practice a) c
+      ∙ ap (λ (x : Refusal). if isAccepted x then withMeter a (freshOf bus practice (valuesOf r)) else a) (u .accepted)
+      ∙ rw (lt-ltb (a .count) mostMeters m)
 
   failed : (a : Meters) (r : Listed) (n : ℕ) → Under a n → (check r ≡ 0 → ⊥) → takeIn bus practice a r ≡ noMeters (AtRecord (failingOf (check r)) (a .count))
-  unfolding checkedOf joined
+  unfolding checkedOf withRecord
   failed a r n u h =
       let c : checkedOf r ≡ Fails (failingOf (check r)) = rw (ne-eqb (check r) 0 h) in
-      ap (joined bus practice a) c ∙ ap (λ (x : Refusal). if isAccepted x then noMeters (AtRecord (failingOf (check r)) (a .count)) else a) (u .accepted)
+      ap (withRecord bus practice a) c ∙ ap (λ (x : Refusal). if isAccepted x then noMeters (AtRecord (failingOf (check r)) (a .count)) else a) (u .accepted)
 
   -- a refused opening takes in no more
   kept : (f : Meters) (rs : List Listed) → isAccepted (f .refusal) ≡ false → fold (takeIn bus practice) f rs ≡ f
   kept f [] h = refl
   kept f (r ∷ rs) h = ap (λ (a : Meters). fold (takeIn bus practice) a rs) (one (checkedOf r)) ∙ kept f rs h
     where
-      one : (c : Checked) → joined bus practice f c ≡ f
+      one : (c : Checked) → withRecord bus practice f c ≡ f
       one c = sym (join-kept bus practice f c h)
 
   -- ---- all records

@@ -4,6 +4,7 @@ use mathlib.Core.List.{List}
 use Prim.Native.Nat.{ℕ, zero, suc, _+_}
 use lib.Dec.{ltb}
 use lib.ListN.{set, replicate}
+use Rattle.scenarios.specs.Opening.{mostMeters}
 use Rattle.laws.specs.Words.{if_then_else_}
 use Rattle.meter.specs.declared.Fault.the-variants.{None}
 use Rattle.meter.specs.declared.Model.the-variants.{Water}
@@ -44,20 +45,20 @@ spare =
 
 -- no meters
 unfoldable pub noMeters : Refusal → Meters
-noMeters r = record { refusal = r; meters = replicate 64 spare; count = 0 }
+noMeters r = record { refusal = r; meters = replicate mostMeters spare; count = 0 }
 
 -- one meter more, while there is room
-unfoldable pub put : Meters → Meter → Meters
-put a m = if ltb (a .count) 64 then record { refusal = a .refusal; meters = set (a .meters) (a .count) m; count = a .count + 1 } else a
+unfoldable pub withMeter : Meters → Meter → Meters
+withMeter a m = if ltb (a .count) mostMeters then record { refusal = a .refusal; meters = set (a .meters) (a .count) m; count = a .count + 1 } else a
 
 -- one record more, checked. Its index is the number of meters so far
-unfoldable pub joined : ℕ → Bool → Meters → Checked → Meters
-joined bus practice a (Passes v) = if isAccepted (a .refusal) then put a (freshOf bus practice v) else a
-joined bus practice a (Fails f) = if isAccepted (a .refusal) then noMeters (AtRecord f (a .count)) else a
+unfoldable pub withRecord : ℕ → Bool → Meters → Checked → Meters
+withRecord bus practice a (Passes v) = if isAccepted (a .refusal) then withMeter a (freshOf bus practice v) else a
+withRecord bus practice a (Fails f) = if isAccepted (a .refusal) then noMeters (AtRecord f (a .count)) else a
 
 -- one step of the reader more
 unfoldable pub admitted : List ℕ → ℕ → Bool → Meters → Step → Meters
-admitted s bus practice a (Record r next) = joined bus practice a (checkedOf (listedOf s r))
+admitted s bus practice a (Record r next) = withRecord bus practice a (checkedOf (listedOf s r))
 admitted s bus practice a Bad = a
 admitted s bus practice a End = a
 
@@ -73,4 +74,4 @@ gathered s bus practice (suc k) = admitted s bus practice (gathered s bus practi
 
 -- after as many steps as there may be meters
 unfoldable pub gatheredOf : List ℕ → ℕ → Bool → Meters
-gatheredOf s bus practice = gathered s bus practice 64
+gatheredOf s bus practice = gathered s bus practice mostMeters

@@ -13,9 +13,12 @@ use Rattle.meter_list.specs.Layout.{Listed, Layout, fits, noFit, readRecords}
 use Rattle.rules.specs.Check.{check, allPass}
 use Rattle.fresh_meter.specs.Fresh.{fresh}
 
--- "At most 64 meters."
+-- "At most 64 meters.": as the number that an array's length is, and as a word that does not compute
+abbrev pub mostMeters : ℕ
+mostMeters = 64
+
 unfoldable pub capacity : ℕ
-capacity = 64
+capacity = mostMeters
 
 -- what opening a list at a baud comes to: the meters; a refusal by number; or a refusal by one of the records
 pub data Opened : Type 0 where

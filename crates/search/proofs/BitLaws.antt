@@ -4,7 +4,7 @@ use mathlib.Core.Bool.{Bool, true, false, _&&_, _||_, not}
 use Prim.Native.Nat.{ℕ, zero, suc, _-_, _≤_}
 use native.Mathlib.Omega.{arith}
 use lib.Bits.{bitAnd, bitOr, bitXor}
-use Rattle.packed.specs.Marks.{bitIf}
+use Rattle.laws.specs.Words.{bitIf}
 use Rattle.search.specs.Packing.{on}
 
 pub data Bit : ℕ → Bool → Type 0 where

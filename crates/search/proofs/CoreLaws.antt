@@ -18,7 +18,7 @@ use Rattle.search.specs.declared.Outcome.{Outcome}
 use Rattle.search.specs.declared.Outcome.the-variants.{ClockOutOfRange, NotEmpty, TooFewLent}
 use Rattle.search.specs.declared.Core.{Core}
 use Rattle.search.specs.SearchCall.{searchRefused, searchCall}
-use Rattle.search.specs.View.{numberOf, coreGives, Finds, Refuses, Empty, held, Walks}
+use Rattle.search.specs.View.{outcomeNumber, coreGives, CoreFinds, Refuses, Empty, metersHeld, Walks}
 use Rattle.search.proofs.MadeLaws.{meters-are, how-many, fitting, count-is, made}
 
 -- ---- the tests
@@ -40,16 +40,16 @@ module _ (s : Segment) (li : 0 < length (s .input)) (lq : 0 < length (s .queue))
   pub some-waits : (s .waiting ≡ 0 → ⊥) → Empty s false
   some-waits h = empty-by false (sym (ap (λ b. b && eqb (s .queued) 0) (ne-eqb (s .waiting) 0 h)))
 
-pub meters-held : (s : Segment) → length (s .meters) ≡ capacity → (n : ℕ) → n ≡ held s → n ≡ length ((plainOf s) .meters)
+pub meters-held : (s : Segment) → length (s .meters) ≡ capacity → (n : ℕ) → n ≡ metersHeld s → n ≡ length ((plainOf s) .meters)
 unfolding plainOf
 meters-held s a n e = e ∙ sym (ap length (meters-are s a) ∙ how-many s a)
 
 -- ---- the search call
 
-gives-refused : (s : Segment) (o : Outcome) (r : Core) → Refuses s o r → (lent : List EntryRecord) → coreGives r lent ≡ searchRefused (numberOf o) lent (plainOf s)
+gives-refused : (s : Segment) (o : Outcome) (r : Core) → Refuses s o r → (lent : List EntryRecord) → coreGives r lent ≡ searchRefused (outcomeNumber o) lent (plainOf s)
 unfolding coreGives
 gives-refused s o r x lent = λ j. record {
-  number = numberOf (x .outcome j);
+  number = outcomeNumber (x .outcome j);
   count = x .count j;
   probes = x .probes j;
   spent = x .spent j;
@@ -58,13 +58,13 @@ gives-refused s o r x lent = λ j. record {
 }
 
 module _ (s : Segment) (k : Clock) (allowance room : ℕ) where
-  refusing : (o : Outcome) (r : Core) → Refuses s o r → ((lent : List EntryRecord) → length lent ≡ room → searchRefused (numberOf o) lent (plainOf s) ≡ searchCall k allowance lent (plainOf s))
-      → Finds s k allowance room r
+  refusing : (o : Outcome) (r : Core) → Refuses s o r → ((lent : List EntryRecord) → length lent ≡ room → searchRefused (outcomeNumber o) lent (plainOf s) ≡ searchCall k allowance lent (plainOf s))
+      → CoreFinds s k allowance room r
   refusing o r x h =
       record { gives = λ lent l. gives-refused s o r x lent ∙ h lent l; fits = omega (arith, x .count); enough = omega (arith, x .count) }
 
   module _ {g : Bool} (eg : g ≡ goodClock k) where
-    pub refused-clock : (r : Core) → not g ≡ true → Refuses s ClockOutOfRange r → Finds s k allowance room r
+    pub refused-clock : (r : Core) → not g ≡ true → Refuses s ClockOutOfRange r → CoreFinds s k allowance room r
     unfolding searchCall
     refused-clock r h x = refusing ClockOutOfRange r x (λ lent l. rw (sym eg, not-true g h))
 
@@ -72,7 +72,7 @@ module _ (s : Segment) (k : Clock) (allowance room : ℕ) where
       clock-good : goodClock k ≡ true
       clock-good = sym eg ∙ not-false g good
 
-      pub refused-waiting : (r : Core) → not e ≡ true → Refuses s NotEmpty r → Finds s k allowance room r
+      pub refused-waiting : (r : Core) → not e ≡ true → Refuses s NotEmpty r → CoreFinds s k allowance room r
       unfolding searchCall
       refused-waiting r h x = refusing NotEmpty r x (λ lent l. rw (clock-good, sym (ee .plain), not-true e h))
 
@@ -86,12 +86,12 @@ module _ (s : Segment) (k : Clock) (allowance room : ℕ) where
         nothing : s .queued ≡ 0
         nothing = eqb-true (s .queued) 0 (and-r (eqb (s .waiting) 0) (eqb (s .queued) 0) numbers)
 
-        pub refused-few : (r : Core) → room < n → Refuses s TooFewLent r → Finds s k allowance room r
+        pub refused-few : (r : Core) → room < n → Refuses s TooFewLent r → CoreFinds s k allowance room r
         unfolding searchCall
         refused-few r h x =
             refusing TooFewLent r x (λ lent l. rw (clock-good, sym (ee .plain), not-false e rest, lt-ltb (length lent) (length ((plainOf s) .meters)) (omega arith)))
 
-        pub made-search : (r : Core) → n ≤ room → n ≡ held s → Walks s allowance r → Finds s k allowance room r
+        pub made-search : (r : Core) → n ≤ room → n ≡ metersHeld s → Walks s allowance r → CoreFinds s k allowance room r
         unfolding searchCall capacity
         made-search r h eh x =
             let c = count-is s k allowance r clock-good none nothing x in

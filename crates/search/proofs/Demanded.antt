@@ -20,7 +20,7 @@ use Rattle.walk.proofs.Fits.{well-sized, walk-fits-meters}
 use Rattle.search.specs.declared.EntryRecord.{EntryRecord}
 use Rattle.search.specs.SearchCall.{Searched, searchCall}
 use Rattle.search.specs.Call.{opening, afterCalls}
-use Rattle.search.specs.Demand.{Demanded, Demand3}
+use Rattle.search.specs.Demand.{Demanded, PlainDemand3}
 use Rattle.search.proofs.Allowed.{Allowed, allowed-accepted, accepted-allowed}
 use Rattle.search.proofs.CallLaws.{all-well, blank-well}
 
@@ -56,7 +56,7 @@ module _ (k : Clock) (a : ℕ) (lent : List EntryRecord) (s : Plain) where
 
 -- ---- any list of calls that begins with an opening, and one more search that is not refused
 
-pub demanded : Demand3
+pub demanded : PlainDemand3
 demanded list bus practice origin cs k a lent e =
     let s = afterCalls (opening list bus practice origin ∷ cs) blank in
     search-demanded k a lent s (all-well (opening list bus practice origin ∷ cs) blank blank-well) (accepted-allowed k a lent s e)

@@ -13,7 +13,7 @@ use Rattle.search.specs.declared.EntryRecord.{EntryRecord}
 use Rattle.search.specs.declared.Core.{Core}
 use Rattle.search.specs.declared.Searched.{Searched}
 use Rattle.search.specs.SearchCall.{searchCall}
-use Rattle.search.specs.View.{coreGives, searchedOf, answerOf, entryAt}
+use Rattle.search.specs.View.{coreGives, searchedOf, answerOf, recordAt}
 
 abbrev pub filled : Core → List EntryRecord → ℕ → List EntryRecord
 filled c xs k = take k (c .entries) ++ drop k xs
@@ -22,7 +22,7 @@ module _ (c : Core) (xs : List EntryRecord) (i : ℕ) where
   copied : Copied xs 0 (c .entries) i (filled c xs i)
   copied = record { is = ap (λ (k : ℕ). take i (c .entries) ++ drop k xs) (sym (zero-add i)) }
 
-  pub filled-next : i < length (c .entries) → i < length xs → set (filled c xs i) i (entryAt (c .entries) i) ≡ filled c xs (i + 1)
+  pub filled-next : i < length (c .entries) → i < length xs → set (filled c xs i) i (recordAt (c .entries) i) ≡ filled c xs (i + 1)
   filled-next l m = copied-front (copied-more _ copied (omega arith) (omega arith) l refl)
 
   pub filled-length : i ≤ length (c .entries) → i ≤ length xs → length (filled c xs i) ≡ length xs

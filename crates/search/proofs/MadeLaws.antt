@@ -23,14 +23,14 @@ use Rattle.walk.proofs.Program.{held-all}
 use Rattle.walk.proofs.Fits.{Idle, walk-fits-meters}
 use Rattle.packed.specs.declared.Found.{Found}
 use Rattle.packed.specs.Marks.{sweptBy}
-use Rattle.packed.specs.Packed.{Run, wholeR, foundOf, Goes}
+use Rattle.packed.specs.Packed.{RunR, wholeR, foundOf, Goes}
 use Rattle.packed.proofs.MarkSweep.{swept-length}
 use Rattle.search.specs.declared.EntryRecord.{EntryRecord}
 use Rattle.search.specs.declared.Outcome.the-variants.{Made}
 use Rattle.search.specs.declared.Core.{Core}
 use Rattle.search.specs.SearchCall.{recordOf, searchGave}
-use Rattle.search.specs.Packing.{idOf, markOf, packed, Bounded, seenBy, recordIn}
-use Rattle.search.specs.View.{numberOf, coreGives, held, packedRun, Walks}
+use Rattle.search.specs.Packing.{keyOf, markOf, packed, Bounded, seenBy, recordIn}
+use Rattle.search.specs.View.{outcomeNumber, coreGives, metersHeld, packedRun, Walks}
 use Rattle.search.proofs.KeyDigits.{digits-eight}
 use Rattle.search.proofs.PackLaws.{map-take}
 use Rattle.search.proofs.PackStart.{packed-hold, packed-seen, swept-seen}
@@ -40,8 +40,8 @@ use Rattle.search.proofs.PackedWalk.{whole-same}
 -- ---- what the walk over packed meters gives
 
 module _ (s : Segment) (allowance : ℕ) (f : Found) (ks ss : List ℕ) (ms : List Meter) (rs : List EntryRecord) (n : ℕ) where
-  pub walks : ks ≡ packed idOf (held s) (s .meters) → ss ≡ packed (markOf (s .baud)) (held s) (s .meters) → Every Bounded (take (held s) (s .meters)) → Goes ks ss allowance f
-      → map plainMeter ms ≡ sweptBy (seenBy (s .baud)) (held s) (f .marks) (map plainMeter (s .meters))
+  pub walks : ks ≡ packed keyOf (metersHeld s) (s .meters) → ss ≡ packed (markOf (s .baud)) (metersHeld s) (s .meters) → Every Bounded (take (metersHeld s) (s .meters)) → Goes ks ss allowance f
+      → map plainMeter ms ≡ sweptBy (seenBy (s .baud)) (metersHeld s) (f .marks) (map plainMeter (s .meters))
       → take (min (f .found) capacity) rs ≡ map recordIn (take (min (f .found) capacity) (f .entries)) → n ≡ min (f .found) capacity → length (s .meters) ≡ capacity
       → Walks s allowance (record {
         outcome = Made;
@@ -57,13 +57,13 @@ module _ (s : Segment) (allowance : ℕ) (f : Found) (ks ss : List ℕ) (ms : Li
       let all : take (min (f .found) capacity) (f .entries) ≡ take (f .found) (f .entries) = ap (λ l. take (min (f .found) l) (f .entries)) (sym (g .entries)) ∙ take-min (f .found) (f .entries) in
       record {
         outcome = refl;
-        entries = ap (λ j. take j rs) c ∙ r ∙ ap (map recordIn) (all ∙ ap (λ (t : Run). t .entries) e);
-        count = c ∙ ap (λ l. min (f .found) l) (sym (g .entries)) ∙ sym (length-take (f .found) (f .entries)) ∙ ap (λ (t : Run). length (t .entries)) e;
-        probes = ap (λ (t : Run). t .probes) e;
-        spent = ap (λ (t : Run). t .spent) e;
-        meters = u ∙ ap (λ (t : Run). sweptBy (seenBy (s .baud)) (held s) (t .marks) (map plainMeter (s .meters))) e;
+        entries = ap (λ j. take j rs) c ∙ r ∙ ap (map recordIn) (all ∙ ap (λ (t : RunR). t .entries) e);
+        count = c ∙ ap (λ l. min (f .found) l) (sym (g .entries)) ∙ sym (length-take (f .found) (f .entries)) ∙ ap (λ (t : RunR). length (t .entries)) e;
+        probes = ap (λ (t : RunR). t .probes) e;
+        spent = ap (λ (t : RunR). t .spent) e;
+        meters = u ∙ ap (λ (t : RunR). sweptBy (seenBy (s .baud)) (metersHeld s) (t .marks) (map plainMeter (s .meters))) e;
         rest = refl;
-        marks = ap (λ (t : Run). length (t .marks)) (sym e) ∙ g .marks;
+        marks = ap (λ (t : RunR). length (t .marks)) (sym e) ∙ g .marks;
         bounded = b;
         all = a;
       }
@@ -72,16 +72,16 @@ module _ (s : Segment) (allowance : ℕ) (f : Found) (ks ss : List ℕ) (ms : Li
 
 module _ (s : Segment) (a : length (s .meters) ≡ capacity) where
   abbrev pub meters : List PlainMeter
-  meters = map plainMeter (take (held s) (s .meters))
+  meters = map plainMeter (take (metersHeld s) (s .meters))
 
   pub meters-are : map plainMeter (take (s .count) (s .meters)) ≡ meters
   meters-are = ap (map plainMeter) (sym (ap (λ l. take (min (s .count) l) (s .meters)) (sym a) ∙ take-min (s .count) (s .meters)))
 
   few : length meters ≤ capacity
-  few = omega (arith, length-map (take (held s) (s .meters)) plainMeter, length-take (held s) (s .meters))
+  few = omega (arith, length-map (take (metersHeld s) (s .meters)) plainMeter, length-take (metersHeld s) (s .meters))
 
-  pub how-many : length meters ≡ held s
-  how-many = length-map (take (held s) (s .meters)) plainMeter ∙ length-take (held s) (s .meters) ∙ omega arith
+  pub how-many : length meters ≡ metersHeld s
+  how-many = length-map (take (metersHeld s) (s .meters)) plainMeter ∙ length-take (metersHeld s) (s .meters) ∙ omega arith
 
   module _ (i : s .waiting ≡ 0) (q : s .queued ≡ 0) where
     at-rest : plainOf s ≡ atRest (s .baud) (s .origin) meters
@@ -95,7 +95,7 @@ module _ (s : Segment) (a : length (s .meters) ≡ capacity) where
         (record {
           input = refl;
           queue = refl;
-          sized = record { few = few; eight = every-image (λ m. length (m .digits) ≡ 8) plainMeter (take (held s) (s .meters)) (every-all (λ m. digits-eight (m .id)) (take (held s) (s .meters))) };
+          sized = record { few = few; eight = every-image (λ m. length (m .digits) ≡ 8) plainMeter (take (metersHeld s) (s .meters)) (every-all (λ m. digits-eight (m .id)) (take (metersHeld s) (s .meters))) };
         })
 
 -- ---- a search that was made
@@ -104,11 +104,11 @@ module _ (s : Segment) (k : Clock) (allowance : ℕ) (r : Core) (gc : goodClock 
   abbrev v : Walked
   v = wholeWalk k allowance (plainOf s)
 
-  abbrev t : Run
+  abbrev t : RunR
   t = packedRun s allowance
 
-  rest-is : atRest (s .baud) (s .origin) (seenAll (s .baud) (meters s (x .all)) (packed (markOf (s .baud)) (held s) (s .meters))) ≡ plainOf s
-  rest-is = ap (atRest (s .baud) (s .origin)) (packed-seen (s .baud) (held s) (s .meters) (x .bounded)) ∙ sym (at-rest s (x .all) i q)
+  rest-is : atRest (s .baud) (s .origin) (seenAll (s .baud) (meters s (x .all)) (packed (markOf (s .baud)) (metersHeld s) (s .meters))) ≡ plainOf s
+  rest-is = ap (atRest (s .baud) (s .origin)) (packed-seen (s .baud) (metersHeld s) (s .meters) (x .bounded)) ∙ sym (at-rest s (x .all) i q)
 
   same : (map recordIn (t .entries) ≡ take capacity (map recordOf (v .entries))) × (t .probes ≡ v .probes) × (t .spent ≡ v .spent)
       × (atRest (s .baud) (s .origin) (seenAll (s .baud) (meters s (x .all)) (t .marks)) ≡ v .segment)
@@ -118,10 +118,10 @@ module _ (s : Segment) (k : Clock) (allowance : ℕ) (r : Core) (gc : goodClock 
       (map recordIn (t .entries) ≡ take capacity (map recordOf (v .entries))) × (t .probes ≡ v .probes) × (t .spent ≡ v .spent)
       × (atRest (s .baud) (s .origin) (seenAll (s .baud) (meters s (x .all)) (t .marks)) ≡ v .segment))
       rest-is
-      (whole-same k (s .baud) (s .origin) gc allowance (meters s (x .all)) (packed idOf (held s) (s .meters)) (few s (x .all)) (packed (markOf (s .baud)) (held s) (s .meters))
-      (packed-hold (s .baud) (held s) (s .meters) (x .bounded)))
+      (whole-same k (s .baud) (s .origin) gc allowance (meters s (x .all)) (packed keyOf (metersHeld s) (s .meters)) (few s (x .all)) (packed (markOf (s .baud)) (metersHeld s) (s .meters))
+      (packed-hold (s .baud) (metersHeld s) (s .meters) (x .bounded)))
 
-  pub fitting : length (v .entries) ≤ held s
+  pub fitting : length (v .entries) ≤ metersHeld s
   fitting = omega (arith, walk-fits-meters k gc allowance (plainOf s) (idle s (x .all) i q) .0, ap (λ (p : Plain). length (p .meters)) (at-rest s (x .all) i q), how-many s (x .all))
 
   entries-are : map recordIn (t .entries) ≡ map recordOf (v .entries)
@@ -137,23 +137,23 @@ module _ (s : Segment) (k : Clock) (allowance : ℕ) (r : Core) (gc : goodClock 
       ∙ (λ j. record { baud = s .baud; origin = s .origin; input = take (i j) (s .input); queue = take (q j) (s .queue); meters = left j })
       ∙ same .3
     where
-      swept : map plainMeter (take (held s) (r .segment .meters)) ≡ seenAll (s .baud) (meters s (x .all)) (t .marks)
+      swept : map plainMeter (take (metersHeld s) (r .segment .meters)) ≡ seenAll (s .baud) (meters s (x .all)) (t .marks)
       swept =
-          sym (map-take plainMeter (held s) (r .segment .meters))
-          ∙ ap (take (held s)) (x .meters)
-          ∙ swept-seen (s .baud) (held s) (t .marks) (map plainMeter (s .meters)) (omega (arith, x .marks, x .all, length-map (s .meters) plainMeter))
-          ∙ ap (λ ms. seenAll (s .baud) ms (t .marks)) (map-take plainMeter (held s) (s .meters))
+          sym (map-take plainMeter (metersHeld s) (r .segment .meters))
+          ∙ ap (take (metersHeld s)) (x .meters)
+          ∙ swept-seen (s .baud) (metersHeld s) (t .marks) (map plainMeter (s .meters)) (omega (arith, x .marks, x .all, length-map (s .meters) plainMeter))
+          ∙ ap (λ ms. seenAll (s .baud) ms (t .marks)) (map-take plainMeter (metersHeld s) (s .meters))
 
       left : map plainMeter (take (s .count) (r .segment .meters)) ≡ seenAll (s .baud) (meters s (x .all)) (t .marks)
       left = ap (map plainMeter) (sym (ap (λ l. take (min (s .count) l) (r .segment .meters)) (sym whole) ∙ take-min (s .count) (r .segment .meters))) ∙ swept
         where
           whole : length (r .segment .meters) ≡ capacity
-          whole = sym (length-map (r .segment .meters) plainMeter) ∙ ap length (x .meters) ∙ swept-length (seenBy (s .baud)) (held s) (t .marks) (map plainMeter (s .meters)) ∙ length-map (s .meters) plainMeter ∙ x .all
+          whole = sym (length-map (r .segment .meters) plainMeter) ∙ ap length (x .meters) ∙ swept-length (seenBy (s .baud)) (metersHeld s) (t .marks) (map plainMeter (s .meters)) ∙ length-map (s .meters) plainMeter ∙ x .all
 
   pub made : (lent : List EntryRecord) → coreGives r lent ≡ searchGave lent v
   unfolding coreGives
   made lent = λ j. record {
-    number = numberOf (x .outcome j);
+    number = outcomeNumber (x .outcome j);
     count = count-is j;
     probes = (x .probes ∙ same .1) j;
     spent = (x .spent ∙ same .2) j;

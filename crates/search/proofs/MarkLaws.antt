@@ -5,15 +5,15 @@ use mathlib.Core.List.{List}
 use Prim.Native.Nat.{ℕ, _+_, _-_, _*_, _/_, _%_, _≤_}
 use native.Mathlib.Omega.{arith}
 use lib.Bits.{bitAnd, bitOr}
-use Rattle.laws.specs.Words.{if_then_else_}
+use Rattle.laws.specs.Words.{if_then_else_, bitIf}
 use Rattle.meter.specs.PlainMeter.{PlainMeter}
 use Rattle.meter.specs.declared.Fault.{Fault}
 use Rattle.meter.specs.declared.Fault.the-variants.{None, Checksum, Truncated, Busy, WrongAddress, Flaky, TooMany}
 use Rattle.meter.specs.Meter.{withSelected, withHearsNext, reset, flaky, hears, put}
 use Rattle.matching.specs.Matching.{matches}
 use Rattle.hear.specs.Hear.{Heard, quiet, answers, E5, select}
-use Rattle.packed.specs.Marks.{bitIf, yesOf, hearsOf, marked}
-use Rattle.search.specs.Packing.{on, stand, standing}
+use Rattle.packed.specs.Marks.{yesOf, hearsOf, marked}
+use Rattle.search.specs.Packing.{on, stand, asMarked}
 use Rattle.search.proofs.BitLaws.{Bit, bit-of, bit-if, bit-on, bit-is, bit-small, bit-and, bit-or, turned, bit-xor, bit-not}
 
 -- ---- what a mask does to the bits of a mark
@@ -178,10 +178,10 @@ bits-kept f s t e k =
 
 -- select of the meter that a mark stands for
 pub select-marked : (d : List ℕ) (m : PlainMeter) (s : ℕ) → Bits (m .fault) s
-    → let t = marked s (bitIf (matches d m)) in select d (standing m s) ≡ acknowledged (on (t % 2)) (standing m t)
-unfolding standing matches
+    → let t = marked s (bitIf (matches d m)) in select d (asMarked m s) ≡ acknowledged (on (t % 2)) (asMarked m t)
+unfolding asMarked matches
 select-marked d m s k =
-    select-is d (standing m s)
+    select-is d (asMarked m s)
     ∙ stand-select m b f (on (s % 2)) (on (s / 2 % 2)) (on (s / 4 % 2)) (on (s / 8 % 2)) (s / 65536 % 256) (s / 256 % 256)
     ∙ sym (rw (marked-selected s b, marked-fresh s b, marked-hears s b, marked-clear s b, marked-access s b, marked-readouts s b, k .steady, k .flaky′) refl)
   where

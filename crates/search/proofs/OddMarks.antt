@@ -11,7 +11,8 @@ use Rattle.laws.proofs.Lists.{and-r}
 use Rattle.meter.specs.PlainMeter.{PlainMeter}
 use Rattle.walk.specs.Entries.{begins}
 use Rattle.walk.proofs.Model.{Prefix}
-use Rattle.packed.specs.Marks.{bitIf, inside, marked, masked, acked, sweptBy, foldBy}
+use Rattle.laws.specs.Words.{bitIf}
+use Rattle.packed.specs.Marks.{inside, marked, masked, acked, sweptBy, foldBy}
 use Rattle.packed.specs.Packed.{spanOf}
 use Rattle.search.specs.Packing.{on}
 use Rattle.search.proofs.MarkLaws.{heard, marked-selected, marked-fresh, marked-clear}

@@ -7,17 +7,17 @@ use native.Mathlib.Numerals.{add-one}
 use native.Mathlib.Omega.{arith}
 use borrow.Author.Tests.{eq-eqb, ne-eqb}
 use lib.ListN.{length, take, drop, set, getD, List·getD-map, length-map}
-use Rattle.laws.specs.Words.{Every}
+use Rattle.laws.specs.Words.{Every, bitIf}
 use Rattle.laws.proofs.Copy.{Copied, copied-none, copied-more, copied-first, copied-front}
 use Rattle.meter.specs.PlainMeter.{PlainMeter}
 use Rattle.meter.specs.Meter.{with}
 use Rattle.meter.specs.View.{plainMeter}
 use Rattle.meter.specs.declared.Meter.{Meter}
 use Rattle.meter.specs.declared.LastFcb.{LastFcb}
-use Rattle.packed.specs.Marks.{bitIf, sweptBy}
+use Rattle.packed.specs.Marks.{sweptBy}
 use Rattle.packed.proofs.MarkSweep.{Sweep, sweep-none, sweep-more, sweep-all}
 use Rattle.search.specs.declared.Kind.the-variants.{Many}
-use Rattle.search.specs.Packing.{faultBits, markOf, on, lastIn, partIn, standing, seenAs, seenBy, kindIn, countIn}
+use Rattle.search.specs.Packing.{faultBits, markOf, on, lastIn, partIn, asMarked, seenAs, seenBy, kindIn, countIn}
 
 -- ---- a front number
 
@@ -110,7 +110,7 @@ module _ (bus : ℕ) (m : Meter) where
 
 pub unmark-here : (bus s : ℕ) (m : Meter) (l : LastFcb) (p : ℕ) → m .baud ≡ bus → l ≡ lastIn (on (s / 8 % 2)) (on (s / 2 % 2)) (m .last) → p ≡ partIn (on (s / 8 % 2)) (on (s / 2 % 2)) (m .part)
     → with (plainMeter m) (m .primary, m .baud) (on (s % 2)) (p, l) (s / 65536 % 256, s / 256 % 256) (on (s / 4 % 2)) ≡ seenAs bus (plainMeter m) s
-unfolding seenAs standing
+unfolding seenAs asMarked
 unmark-here bus s m l p h el ep = rw (eq-eqb (m .baud) bus h, el, ep)
 
 pub unmark-away : (bus s : ℕ) (m : Meter) → (m .baud ≡ bus → ⊥) → plainMeter m ≡ seenAs bus (plainMeter m) s

@@ -6,15 +6,15 @@ use Prim.Native.Nat.{ℕ, zero, suc, _+_, _*_, _/_, _%_, _≤_, _<_}
 use native.Mathlib.Omega.{arith}
 use lib.Dec.{eqb}
 use lib.ListN.{length, take, drop, replicate}
-use Rattle.laws.specs.Words.{if_then_else_, Every}
+use Rattle.laws.specs.Words.{if_then_else_, Every, bitIf}
 use Rattle.meter.specs.PlainMeter.{PlainMeter}
 use Rattle.meter.specs.View.{plainMeter}
 use Rattle.meter.specs.declared.Meter.{Meter}
 use Rattle.meter.specs.declared.Fault.{Fault}
 use Rattle.meter.specs.declared.Fault.the-variants.{None, Checksum, Truncated, Busy, WrongAddress, Flaky, TooMany}
 use Rattle.scenarios.specs.Opening.{capacity}
-use Rattle.packed.specs.Marks.{bitIf, sweptBy}
-use Rattle.search.specs.Packing.{faultBits, idOf, markOf, packed, Bounded, on, stand, standing, seenAs, seenBy}
+use Rattle.packed.specs.Marks.{sweptBy}
+use Rattle.search.specs.Packing.{faultBits, keyOf, markOf, packed, Bounded, on, stand, asMarked, seenAs, seenBy}
 use Rattle.search.proofs.BitLaws.{bit-if, bit-on, bit-small}
 use Rattle.search.proofs.MarkLaws.{in-nibble, Bits, bits-kept, Silent, silent-zero}
 use Rattle.search.proofs.PackedProbe.{Holds, AllHold, seenAll}
@@ -78,8 +78,8 @@ module _ (bus : ℕ) (m : Meter) (z : Bounded m) where
       × (s / 65536 % 256 ≡ m .access)
   parts e = total-parts (bitIf (m .selected)) (bitIf (m .hearing)) (faultBits (m .fault) / 16) (m .readouts) (m .access) s (bit-small (bit-if (m .selected))) (bit-small (bit-if (m .hearing))) (fault-bits (m .fault) .1) (z .readouts) (z .access) (here e)
 
-  stands : eqb (m .baud) bus ≡ true → standing (plainMeter m) s ≡ plainMeter m
-  unfolding standing
+  stands : eqb (m .baud) bus ≡ true → asMarked (plainMeter m) s ≡ plainMeter m
+  unfolding asMarked
   stands e =
       let p = parts e in
       λ i. stand (plainMeter m) ((ap on (p .0) ∙ bit-on (bit-if (m .selected))) i) (on (p .1 i)) ((ap on (p .2) ∙ bit-on (bit-if (m .hearing))) i) (on (p .3 i)) (p .6 i) (p .5 i)
@@ -88,7 +88,7 @@ module _ (bus : ℕ) (m : Meter) (z : Bounded m) where
   unfolding seenAs
   start-seen = go (eqb (m .baud) bus) refl
     where
-      go : (b : Bool) → eqb (m .baud) bus ≡ b → (if b then standing (plainMeter m) s else plainMeter m) ≡ plainMeter m
+      go : (b : Bool) → eqb (m .baud) bus ≡ b → (if b then asMarked (plainMeter m) s else plainMeter m) ≡ plainMeter m
       go true e = stands e
       go false e = refl
 
@@ -114,7 +114,7 @@ silent-zeros (suc n) (suc m) = silent-zeros n m
 
 module _ (bus : ℕ) where
   all-start : (n : ℕ) (ms : List Meter) (ks zs : List ℕ) → Every Silent zs → Every Bounded (take n ms)
-      → AllHold bus (map plainMeter (take n ms)) (take n (map idOf ms) ++ ks) (take n (map (markOf bus) ms) ++ zs)
+      → AllHold bus (map plainMeter (take n ms)) (take n (map keyOf ms) ++ ks) (take n (map (markOf bus) ms) ++ zs)
   all-start zero ms ks zs q b = q
   all-start (suc n) [] ks zs q b = q
   all-start (suc n) (m ∷ ms) ks zs q b = (start-holds bus m (b .0), all-start n ms ks zs q (b .1))
@@ -127,7 +127,7 @@ module _ (bus : ℕ) where
   all-seen (suc n) (m ∷ ms) zs b = ap₂ (λ x xs. x ∷ xs) (start-seen bus m (b .0)) (all-seen n ms zs (b .1))
 
   module _ (n : ℕ) (ms : List Meter) (b : Every Bounded (take n ms)) where
-    pub packed-hold : AllHold bus (map plainMeter (take n ms)) (packed idOf n ms) (packed (markOf bus) n ms)
+    pub packed-hold : AllHold bus (map plainMeter (take n ms)) (packed keyOf n ms) (packed (markOf bus) n ms)
     unfolding packed
     packed-hold = all-start n ms (drop n (replicate capacity 0)) (drop n (replicate capacity 0)) (silent-zeros n capacity) b
 

@@ -8,7 +8,7 @@ use native.Mathlib.Omega.{arith}
 use lib.Dec.{eqb}
 use lib.Ieee.{Float}
 use lib.ListN.{length}
-use Rattle.laws.specs.Words.{if_then_else_, keep, Every}
+use Rattle.laws.specs.Words.{if_then_else_, keep, Every, bitIf}
 use Rattle.identity.specs.Identity.{digitsOf}
 use Rattle.meter.specs.PlainMeter.{PlainMeter}
 use Rattle.clock.specs.declared.Clock.{Clock}
@@ -24,9 +24,9 @@ use Rattle.walk.specs.Entries.{begins}
 use Rattle.walk.proofs.Model.{Prefix}
 use Rattle.walk.proofs.MaskLaws.{maskData, mask-is, mask-matches}
 use Rattle.walk.proofs.ProbeLaws.{secs, called, probedM, probe-rest}
-use Rattle.packed.specs.Marks.{bitIf, inside, marked, masked, acked, sweptBy, foldBy}
+use Rattle.packed.specs.Marks.{inside, marked, masked, acked, sweptBy, foldBy}
 use Rattle.packed.specs.Packed.{spanOf}
-use Rattle.search.specs.Packing.{on, standing, seenAs}
+use Rattle.search.specs.Packing.{on, asMarked, seenAs}
 use Rattle.search.proofs.MarkLaws.{marked-odd, marked-kind, Bits, bits-kept, Silent, silent-marked, select-marked, acknowledged-meter}
 use Rattle.search.proofs.KeyDigits.{digits-eight}
 use Rattle.search.proofs.Ranges.{lowOf, inside-begins}
@@ -87,24 +87,24 @@ masked-keeps low high =
 -- ---- one meter
 
 seen-digits : (bus : ℕ) (m : PlainMeter) (s : ℕ) → (seenAs bus m s) .digits ≡ m .digits
-unfolding seenAs standing
+unfolding seenAs asMarked
 seen-digits bus m s = go (eqb (m .baud) bus)
   where
-    go : (b : Bool) → (if b then standing m s else m) .digits ≡ m .digits
+    go : (b : Bool) → (if b then asMarked m s else m) .digits ≡ m .digits
     go true = refl
     go false = refl
 
 pub seen-baud : (bus : ℕ) (m : PlainMeter) (s : ℕ) → (seenAs bus m s) .baud ≡ m .baud
-unfolding seenAs standing
+unfolding seenAs asMarked
 seen-baud bus m s = go (eqb (m .baud) bus)
   where
-    go : (b : Bool) → (if b then standing m s else m) .baud ≡ m .baud
+    go : (b : Bool) → (if b then asMarked m s else m) .baud ≡ m .baud
     go true = refl
     go false = refl
 
 -- it hears if it is steady, or if its mark says so
-pub standing-hears : (m : PlainMeter) (s : ℕ) → Bits (m .fault) s → hears (standing m s) ≡ (on (s / 16 % 2) || on (s / 4 % 2))
-unfolding hears standing
+pub standing-hears : (m : PlainMeter) (s : ℕ) → Bits (m .fault) s → hears (asMarked m s) ≡ (on (s / 16 % 2) || on (s / 4 % 2))
+unfolding hears asMarked
 standing-hears m s k = go (flaky (m .fault)) (k .steady)
   where
     go : (f : Bool) → on (s / 16 % 2) ≡ not f → (if f then on (s / 4 % 2) else true) ≡ (on (s / 16 % 2) || on (s / 4 % 2))
@@ -127,7 +127,7 @@ module _ (k : Clock) (bus : ℕ) (o : Float) (p : List ℕ) (u : ℕ) (w : Prefi
 
     -- the meter afterwards is the one that its new mark stands for
     one-probed : probedM k bus o p (seenAs bus m s) ≡ seenAs bus m (masked low high key s)
-    unfolding seenAs masked standing
+    unfolding seenAs masked asMarked
     one-probed =
         ap (λ (t : Heard). t .meter) (ap (λ t. hear bus t (secs k bus o) k (seenAs bus m s)) (mask-is p) ∙ hear-select bus (maskData p) (secs k bus o) k (seenAs bus m s))
         ∙ go (eqb (m .baud) bus) refl
@@ -136,27 +136,27 @@ module _ (k : Clock) (bus : ℕ) (o : Float) (p : List ℕ) (u : ℕ) (w : Prefi
         d = maskData p
 
         go : (b : Bool) → eqb (m .baud) bus ≡ b
-            → (if eqb ((if b then standing m s else m) .baud) bus then select d (if b then standing m s else m) else quiet (if b then standing m s else m)) .meter
-            ≡ (if b then standing m (marked s (bitIf (inside low high key))) else m)
+            → (if eqb ((if b then asMarked m s else m) .baud) bus then select d (if b then asMarked m s else m) else quiet (if b then asMarked m s else m)) .meter
+            ≡ (if b then asMarked m (marked s (bitIf (inside low high key))) else m)
         go true e =
-            ap (λ x. (if x then select d (standing m s) else quiet (standing m s)) .meter) e
+            ap (λ x. (if x then select d (asMarked m s) else quiet (asMarked m s)) .meter) e
             ∙ ap (λ (t : Heard). t .meter) (select-marked d m s (h .bits e))
-            ∙ acknowledged-meter (on (marked s (bitIf (matches d m)) % 2)) (standing m (marked s (bitIf (matches d m))))
-            ∙ ap (λ x. standing m (marked s (bitIf x))) (mask-matches p m w eight-digits ∙ sym in-mask)
+            ∙ acknowledged-meter (on (marked s (bitIf (matches d m)) % 2)) (asMarked m (marked s (bitIf (matches d m))))
+            ∙ ap (λ x. asMarked m (marked s (bitIf x))) (mask-matches p m w eight-digits ∙ sym in-mask)
         go false e = ap (λ x. (if x then select d m else quiet m) .meter) e
 
     -- it acknowledges exactly if its new mark is odd
     one-called : masked low high key s % 2 ≡ bitIf (called k bus o p (seenAs bus m s))
-    unfolding masked seenAs standing
+    unfolding masked seenAs asMarked
     one-called = marked-odd s (inside low high key) ∙ ap bitIf (ap (λ b. (on (s / 16 % 2) || on (s / 4 % 2)) && b) in-mask ∙ sym (go (eqb (m .baud) bus) refl))
       where
         go : (b : Bool) → eqb (m .baud) bus ≡ b → called k bus o p (seenAs bus m s) ≡ ((on (s / 16 % 2) || on (s / 4 % 2)) && begins p (m .digits))
         go true e =
-            ap (λ b. called k bus o p (if b then standing m s else m)) e
+            ap (λ b. called k bus o p (if b then asMarked m s else m)) e
             ∙ ap₂ (λ x y. x && (begins p (m .digits) && y)) e (standing-hears m s (h .bits e))
             ∙ and-comm (begins p (m .digits)) (on (s / 16 % 2) || on (s / 4 % 2))
         go false e =
-            ap (λ b. called k bus o p (if b then standing m s else m)) e
+            ap (λ b. called k bus o p (if b then asMarked m s else m)) e
             ∙ ap (λ x. x && (begins p (m .digits) && hears m)) e
             ∙ sym (ap₂ (λ x y. (x || y) && begins p (m .digits)) (h .away e .steady) (h .away e .deaf))
 

@@ -8,7 +8,7 @@ use lib.Dec.{eqb}
 use lib.Ieee.{Float}
 use lib.ListN.{length}
 use borrow.Author.Tests.{eqb-true}
-use Rattle.laws.specs.Words.{if_then_else_, keep, Every}
+use Rattle.laws.specs.Words.{if_then_else_, keep, Every, bitIf}
 use Rattle.meter.specs.PlainMeter.{PlainMeter}
 use Rattle.clock.specs.declared.Clock.{Clock}
 use Rattle.meter.specs.Meter.{hears, put}
@@ -26,10 +26,10 @@ use Rattle.walk.specs.Entries.{begins, failsBy}
 use Rattle.walk.proofs.Model.{Prefix}
 use Rattle.walk.proofs.ProbeLaws.{secs, asks, readM, read-rest}
 use Rattle.walk.proofs.ReadingLaws.{Nibbles, readout-nibbles}
-use Rattle.packed.specs.Marks.{bitIf, yesOf, readable, readMark, readKey, readBy, sweptBy, foldBy}
+use Rattle.packed.specs.Marks.{yesOf, readable, readMark, readKey, readBy, sweptBy, foldBy}
 use Rattle.packed.specs.Packed.{spanOf}
 use Rattle.search.specs.SearchCall.{recordOf}
-use Rattle.search.specs.Packing.{on, standing, seenAs, recordIn}
+use Rattle.search.specs.Packing.{on, asMarked, seenAs, recordIn}
 use Rattle.search.proofs.BitLaws.{bit-on}
 use Rattle.search.proofs.MarkLaws.{yes-bit, Silent}
 use Rattle.search.proofs.ReadMarks.{put-is, bits-read, silent-read, even-read, yes-is, request-marked}
@@ -64,67 +64,67 @@ module _ (k : Clock) (bus : ℕ) (o : Float) (p : List ℕ) (u : ℕ) (w : Prefi
 
   module _ (m : PlainMeter) (key s : ℕ) (h : Holds bus m key s) where
     one-read : IfOdd bus p m s → readM k bus o (seenAs bus m s) ≡ seenAs bus m (readBy key s)
-    unfolding seenAs readBy standing reading
+    unfolding seenAs readBy asMarked reading
     one-read odd = ap (λ (t : Heard). t .meter) (hear-reading bus (secs k bus o) k (seenAs bus m s)) ∙ go (eqb (m .baud) bus) refl
       where
         go : (b : Bool) → eqb (m .baud) bus ≡ b
-            → (let n = (if b then standing m s else m) in if eqb (n .baud) bus then (if n .selected then request false (secs k bus o) k n else quiet n) else quiet n) .meter
-            ≡ (if b then standing m (readMark s) else m)
+            → (let n = (if b then asMarked m s else m) in if eqb (n .baud) bus then (if n .selected then request false (secs k bus o) k n else quiet n) else quiet n) .meter
+            ≡ (if b then asMarked m (readMark s) else m)
         go true e =
-            ap (λ x. (if x then (if on (s % 2) then request false (secs k bus o) k (standing m s) else quiet (standing m s)) else quiet (standing m s)) .meter) e
+            ap (λ x. (if x then (if on (s % 2) then request false (secs k bus o) k (asMarked m s) else quiet (asMarked m s)) else quiet (asMarked m s)) .meter) e
             ∙ by (on (s % 2)) refl
           where
-            by : (c : Bool) → on (s % 2) ≡ c → (if c then request false (secs k bus o) k (standing m s) else quiet (standing m s)) .meter ≡ standing m (readMark s)
+            by : (c : Bool) → on (s % 2) ≡ c → (if c then request false (secs k bus o) k (asMarked m s) else quiet (asMarked m s)) .meter ≡ asMarked m (readMark s)
             by true c = request-marked m s (odd c .fresh) (secs k bus o) k
-            by false c = ap (standing m) (sym (even-read s c))
+            by false c = ap (asMarked m) (sym (even-read s c))
         go false e = ap (λ x. (if x then (if m .selected then request false (secs k bus o) k m else quiet m) else quiet m) .meter) e
 
     -- an even mark's meter does not reply
     even-quiet : on (s % 2) ≡ false → asks k bus o (seenAs bus m s) ≡ false
-    unfolding seenAs standing
+    unfolding seenAs asMarked
     even-quiet c = go (eqb (m .baud) bus) refl
       where
         go : (b : Bool) → eqb (m .baud) bus ≡ b → asks k bus o (seenAs bus m s) ≡ false
-        go true e = ap (λ b. asks k bus o (if b then standing m s else m)) e ∙ ap₂ (λ x y. x && (y && hears (standing m s))) e c
-        go false e = ap (λ b. asks k bus o (if b then standing m s else m)) e ∙ ap (λ x. x && (m .selected && hears m)) e
+        go true e = ap (λ b. asks k bus o (if b then asMarked m s else m)) e ∙ ap₂ (λ x y. x && (y && hears (asMarked m s))) e c
+        go false e = ap (λ b. asks k bus o (if b then asMarked m s else m)) e ∙ ap (λ x. x && (m .selected && hears m)) e
 
     -- ---- the one selected
 
     module _ (q : Selected bus p m s) where
-      hears-yes : hears (standing m s) ≡ on (yesOf s (s % 2))
+      hears-yes : hears (asMarked m s) ≡ on (yesOf s (s % 2))
       hears-yes =
           standing-hears m s (q .fresh .bits) ∙ ap (λ x. x || on (s / 4 % 2)) (q .fresh .bits .steady)
           ∙ sym (ap (λ x. on (yesOf s x)) (q .fresh .selected) ∙ yes-is m s (q .fresh))
 
-      asked-is : (c : Bool) → hears (standing m s) ≡ c → asks k bus o (standing m s) ≡ c
-      unfolding standing
-      asked-is c g = ap₂ (λ x y. x && (y && hears (standing m s))) (q .bus-baud) (ap on (q .fresh .selected)) ∙ g
+      asked-is : (c : Bool) → hears (asMarked m s) ≡ c → asks k bus o (asMarked m s) ≡ c
+      unfolding asMarked
+      asked-is c g = ap₂ (λ x y. x && (y && hears (asMarked m s))) (q .bus-baud) (ap on (q .fresh .selected)) ∙ g
 
       key-is : (c : Bool) → on (yesOf s (s % 2)) ≡ c → readKey high key s ≡ (if c && not (failsBy (m .fault) (s / 256 % 256)) then 0x100000000 + key else high)
       unfolding readKey
       key-is c g = ap₂ (λ x y. if x && y then 0x100000000 + key else high) g (readable-is (m .fault) s (q .fresh .bits))
 
-      reply-is : entryOf p (replied (standing m s)) ≡ (if failsBy (m .fault) (s / 256 % 256) then mute p else one (m .digits))
-      unfolding standing
+      reply-is : entryOf p (replied (asMarked m s)) ≡ (if failsBy (m .fault) (s / 256 % 256) then mute p else one (m .digits))
+      unfolding asMarked
       reply-is =
-          let x = put-parts (standing m s) in
-          readout-nibbles p w (secs k bus o) k (put (standing m s)) (subst Nibbles (sym (x .0 ∙ h .digits)) (digits-eight key, digits-nibbles key)) (ap (begins p) (x .0) ∙ q .has)
+          let x = put-parts (asMarked m s) in
+          readout-nibbles p w (secs k bus o) k (put (asMarked m s)) (subst Nibbles (sym (x .0 ∙ h .digits)) (digits-eight key, digits-nibbles key)) (ap (begins p) (x .0) ∙ q .has)
           ∙ (λ i. if failsBy (x .1 i) (x .2 i) then mute p else one (x .0 i))
 
       fails-record : (f : Bool) → recordOf (if f then mute p else one (m .digits)) ≡ recordIn (if not f then 0x100000000 + key else high)
       fails-record true = sym (record-mute p u w l)
       fails-record false = sym (record-one key (m .digits) (h .small) (h .digits))
 
-      heard-entry : (c : Bool) → hears (standing m s) ≡ c
-          → recordOf (entryOf p (joined (map replied (keep (asks k bus o) (standing m s ∷ []))))) ≡ recordIn (readKey high key s)
+      heard-entry : (c : Bool) → hears (asMarked m s) ≡ c
+          → recordOf (entryOf p (joined (map replied (keep (asks k bus o) (asMarked m s ∷ []))))) ≡ recordIn (readKey high key s)
       unfolding joined
       heard-entry true g =
-          ap (λ b. recordOf (entryOf p (joined (map replied (if b then standing m s ∷ [] else []))))) (asked-is true g)
+          ap (λ b. recordOf (entryOf p (joined (map replied (if b then asMarked m s ∷ [] else []))))) (asked-is true g)
           ∙ ap recordOf reply-is
           ∙ fails-record (failsBy (m .fault) (s / 256 % 256))
           ∙ ap recordIn (sym (key-is true (sym hears-yes ∙ g)))
       heard-entry false g =
-          ap (λ b. recordOf (entryOf p (joined (map replied (if b then standing m s ∷ [] else []))))) (asked-is false g)
+          ap (λ b. recordOf (entryOf p (joined (map replied (if b then asMarked m s ∷ [] else []))))) (asked-is false g)
           ∙ ap recordOf (entry-none p)
           ∙ sym (record-mute p u w l)
           ∙ ap recordIn (sym (key-is false (sym hears-yes ∙ g)))
@@ -133,8 +133,8 @@ module _ (k : Clock) (bus : ℕ) (o : Float) (p : List ℕ) (u : ℕ) (w : Prefi
       odd-entry : recordOf (entryOf p (joined (map replied (keep (asks k bus o) (seenAs bus m s ∷ []))))) ≡ recordIn (readKey high key s)
       unfolding seenAs
       odd-entry =
-          ap (λ b. recordOf (entryOf p (joined (map replied (keep (asks k bus o) ((if b then standing m s else m) ∷ [])))))) (q .bus-baud)
-          ∙ heard-entry (hears (standing m s)) refl
+          ap (λ b. recordOf (entryOf p (joined (map replied (keep (asks k bus o) ((if b then asMarked m s else m) ∷ [])))))) (q .bus-baud)
+          ∙ heard-entry (hears (asMarked m s)) refl
 
   -- ---- all meters
 

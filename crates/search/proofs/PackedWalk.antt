@@ -20,7 +20,7 @@ use Rattle.walk.specs.Walk.{Entry, many, ten, probe, read, wholeWalk}
 use Rattle.walk.proofs.Model.{Prefix, no-digit, prefix-longer}
 use Rattle.walk.proofs.Program.{RunP, stoppedP, countedP, rowP, notedP, answeredP, probedP, walkP, heldRun, whole-held, pushUpTo, push-up-to}
 use Rattle.packed.specs.Marks.{masked, acked, readKey, readBy, sweptBy, foldBy}
-use Rattle.packed.specs.Packed.{Run, Once, onceR, noteR, countR, pushR, walkR, rowR, spanOf}
+use Rattle.packed.specs.Packed.{RunR, Once, onceR, noteR, countR, pushR, walkR, rowR, spanOf}
 use Rattle.packed.proofs.PackedSteps.{once-stop, once-one, once-other}
 use Rattle.search.specs.declared.EntryRecord.{EntryRecord}
 use Rattle.search.specs.SearchCall.{recordOf}
@@ -67,13 +67,13 @@ module _ (k : Clock) (bus : ℕ) (o : Float) (gc : goodClock k ≡ true) (allowa
   abbrev pub abs : List ℕ → Plain
   abs ss = atRest bus o (seenAll bus ms ss)
 
-  abbrev pub image : Run → RunP (List EntryRecord) Plain
+  abbrev pub image : RunR → RunP (List EntryRecord) Plain
   image t = record { entries = map recordIn (t .entries); probes = t .probes; spent = t .spent; state = abs (t .marks) }
 
   abbrev Good : List ℕ → Type 0
   Good ss = AllHold bus ms ks ss
 
-  abbrev Same : Run → RunP (List EntryRecord) Plain → Type 0
+  abbrev Same : RunR → RunP (List EntryRecord) Plain → Type 0
   Same r q = (image r ≡ q) × Good (r .marks)
 
   abbrev Step : Type 0
@@ -88,10 +88,10 @@ module _ (k : Clock) (bus : ℕ) (o : Float) (gc : goodClock k ≡ true) (allowa
   abbrev walkE : ℕ → List ℕ → Step
   walkE = walkP (List EntryRecord) Plain push (probe k) (read k) allowance
 
-  abbrev fol : (ℕ → Run → Run) → Once → Run
+  abbrev fol : (ℕ → RunR → RunR) → Once → RunR
   fol more x = if eqb (x .many) 0 then x .run else more (x .many) (x .run)
 
-  module _ (p : List ℕ) (u : ℕ) (w : Prefix p) (l : length p + u ≡ 8) (t : Run) (g : Good (t .marks)) where
+  module _ (p : List ℕ) (u : ℕ) (w : Prefix p) (l : length p + u ≡ 8) (t : RunR) (g : Good (t .marks)) where
     abbrev low : ℕ
     low = lowOf p u
 
@@ -107,7 +107,7 @@ module _ (k : Clock) (bus : ℕ) (o : Float) (gc : goodClock k ≡ true) (allowa
     good : Good ss
     good = all-kept (masked low high) (masked-keeps low high) bus capacity ms ks (t .marks) g
 
-    module _ (more : ℕ → Run → Run) (more′ : ℕ → Step) (h : (n : ℕ) (r : Run) → 2 ≤ n → Good (r .marks) → Same (more n r) (more′ n (image r))) where
+    module _ (more : ℕ → RunR → RunR) (more′ : ℕ → Step) (h : (n : ℕ) (r : RunR) → 2 ≤ n → Good (r .marks) → Same (more n r) (more′ n (image r))) where
       -- a probe that was paid for, by how many answered
       by-count : t .probes < allowance → (n : ℕ) → count ≡ n → Same (fol more (onceR ks allowance low high t)) (answeredE p n (more′ n) (countedP (abs ss) (image t)))
       by-count paid zero e =
@@ -139,8 +139,8 @@ module _ (k : Clock) (bus : ℕ) (o : Float) (gc : goodClock k ≡ true) (allowa
 
   -- a row, from the digit d on
   row-same : (p : List ℕ) (u : ℕ) → Prefix p → length p + suc u ≡ 8
-      → ((q : List ℕ) → Prefix q → length q + u ≡ 8 → (t : Run) → Good (t .marks) → Same (walkR ks allowance u (lowOf q u) t) (walkE u q (image t)))
-      → (n d : ℕ) → d + n ≡ 10 → (t : Run) → Good (t .marks)
+      → ((q : List ℕ) → Prefix q → length q + u ≡ 8 → (t : RunR) → Good (t .marks) → Same (walkR ks allowance u (lowOf q u) t) (walkE u q (image t)))
+      → (n d : ℕ) → d + n ≡ 10 → (t : RunR) → Good (t .marks)
       → Same (rowR (walkR ks allowance u) (spanOf u + 1) n (lowOf (p ++ d ∷ []) u) t) (rowP (from d n) (λ d. walkE u (p ++ d ∷ [])) (image t))
   unfolding rowR from
   row-same p u w l ih zero d e t g = (refl, g)
@@ -151,7 +151,7 @@ module _ (k : Clock) (bus : ℕ) (o : Float) (gc : goodClock k ≡ true) (allowa
       (low-next p d u)
       (r .0 ∙ ap (rowP (from (d + 1) n) (λ d. walkE u (p ++ d ∷ []))) (v .0), r .1)
 
-  pub walk-same : (u : ℕ) (p : List ℕ) → Prefix p → length p + u ≡ 8 → (t : Run) → Good (t .marks) → Same (walkR ks allowance u (lowOf p u) t) (walkE u p (image t))
+  pub walk-same : (u : ℕ) (p : List ℕ) → Prefix p → length p + u ≡ 8 → (t : RunR) → Good (t .marks) → Same (walkR ks allowance u (lowOf p u) t) (walkE u p (image t))
   unfolding walkR walkP
   walk-same zero p w l t g =
       once-same p 0 w l t g (λ n r. noteR (n * 0x100000000 + lowOf p 0) (r .marks) r) (λ n v. notedP (List EntryRecord) Plain push (probe k) (read k) allowance (many p n) (v .state) v)

@@ -6,7 +6,7 @@ use native.Mathlib.Omega.{arith}
 use lib.Dec.{eqb, ltb}
 use lib.Ieee.{Float}
 use borrow.Author.Tests.{ltb-true, ltb-false}
-use Rattle.laws.specs.Words.{if_then_else_}
+use Rattle.laws.specs.Words.{if_then_else_, bitIf}
 use Rattle.meter.specs.PlainMeter.{PlainMeter}
 use Rattle.clock.specs.declared.Clock.{Clock}
 use Rattle.meter.specs.declared.Fault.{Fault}
@@ -14,8 +14,8 @@ use Rattle.meter.specs.declared.Fault.the-variants.{None, Checksum, Truncated, 
 use Rattle.meter.specs.Meter.{flaky, hears, put}
 use Rattle.asking.specs.Asking.{asked, readoutsNow}
 use Rattle.hear.specs.Hear.{Heard, answers, request}
-use Rattle.packed.specs.Marks.{bitIf, yesOf, hearsOf, readoutsIn, readMark}
-use Rattle.search.specs.Packing.{on, stand, standing}
+use Rattle.packed.specs.Marks.{yesOf, hearsOf, readoutsIn, readMark}
+use Rattle.search.specs.Packing.{on, stand, asMarked}
 use Rattle.search.proofs.BitLaws.{turned, bit-on, bit-is, bit-small, bit-of}
 use Rattle.search.proofs.MarkLaws.{tooMany, Bits, bits-kept, Silent, putB, yes-bit, hears-bit}
 
@@ -121,8 +121,8 @@ deaf-parts s h u ph e =
     let w = far u s (n .3) in
     record { selected = n .0 ∙ l .0; fresh = n .1 ∙ l .1; hears = n .2; clear = w .0; access = w .1; readouts = w .2; kind = w .3 }
 
-parts-stand : (m : PlainMeter) (u y f h c a r v : ℕ) → Parts u y f h c a r v → standing m u ≡ stand m (on y) (on f) (on h) (on c) a r
-unfolding standing
+parts-stand : (m : PlainMeter) (u y f h c a r v : ℕ) → Parts u y f h c a r v → asMarked m u ≡ stand m (on y) (on f) (on h) (on c) a r
+unfolding asMarked
 parts-stand m u y f h c a r v p = rw (p .selected, p .fresh, p .hears, p .clear, p .access, p .readouts)
 
 -- ---- by whether the meter answers the reading
@@ -200,7 +200,7 @@ module _ (m : PlainMeter) (s : ℕ) (q : Fresh m s) where
   pub yes-is : on (yesOf s 1) ≡ (not (flaky (m .fault)) || on (s / 4 % 2))
   yes-is = bit-on (yes-bit s true) ∙ and-true (on (s / 16 % 2) || on (s / 4 % 2)) ∙ ap (λ f. f || on (s / 4 % 2)) (q .bits .steady)
 
-  before : standing m s ≡ stand m true true (on (s / 4 % 2)) false (s / 65536 % 256) (s / 256 % 256)
+  before : asMarked m s ≡ stand m true true (on (s / 4 % 2)) false (s / 65536 % 256) (s / 256 % 256)
   before = parts-stand m s 1 1 (s / 4 % 2) 0 (s / 65536 % 256) (s / 256 % 256) (s / 16 % 16)
       (record { selected = q .selected; fresh = q .fresh; hears = refl; clear = q .clear; access = refl; readouts = refl; kind = refl })
 
@@ -209,7 +209,7 @@ module _ (m : PlainMeter) (s : ℕ) (q : Fresh m s) where
       if b then stand m true true (turned (on (s / 4 % 2)) (flaky (m .fault))) true ((s / 65536 % 256 + 1) % 256) (readoutsNow (m .fault) (s / 256 % 256))
       else stand m true true (turned (on (s / 4 % 2)) (flaky (m .fault))) false (s / 65536 % 256) (s / 256 % 256)
 
-  afterwards : (y : ℕ) → y ≤ 1 → yesOf s 1 ≡ y → standing m (readMark s) ≡ read-to (on y)
+  afterwards : (y : ℕ) → y ≤ 1 → yesOf s 1 ≡ y → asMarked m (readMark s) ≡ read-to (on y)
   unfolding readoutsIn
   afterwards zero h e =
       parts-stand m (readMark s) _ _ _ _ _ _ _ (deaf-parts s (hearsOf s 1) (readMark s) (bit-small (hears-bit s true)) (deaf-mark s (ap (yesOf s) (q .selected) ∙ e) ∙ ap (λ x. s / 8 * 8 + hearsOf s x * 4 + s % 4) (q .selected)))
@@ -220,7 +220,7 @@ module _ (m : PlainMeter) (s : ℕ) (q : Fresh m s) where
       ∙ rw (q .selected, hearing-is, counted (s / 128 % 2) (s / 256 % 256) (omega arith) (m .fault) (q .bits .many) (omega arith))
   afterwards (suc (suc y)) h e = absurd (omega arith)
 
-  pub request-marked : (e : Float) (k : Clock) → (request false e k (standing m s)) .meter ≡ standing m (readMark s)
+  pub request-marked : (e : Float) (k : Clock) → (request false e k (asMarked m s)) .meter ≡ asMarked m (readMark s)
   request-marked e k =
       ap (λ n. (request false e k n) .meter) before
       ∙ request-is e k (stand m true true (on (s / 4 % 2)) false (s / 65536 % 256) (s / 256 % 256))

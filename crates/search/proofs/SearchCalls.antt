@@ -27,11 +27,11 @@ use denote.Triple.Walked.{says}
 use Rattle.clock.specs.declared.Clock.{Clock}
 use Rattle.clock.proofs.Clock as K
 use Rattle.clock.proofs.Clock.Laws as K′
-use Rattle.scenarios.specs.Opening.{capacity}
+use Rattle.scenarios.specs.Opening.{mostMeters, capacity}
 use Rattle.bus.specs.declared.Segment.{Segment}
 use Rattle.bus.proofs.Segment as S
 use Rattle.bus.proofs.Segment.Laws as S′
-use Rattle.search.specs.View.{Finds, answerOf, entryAt}
+use Rattle.search.specs.View.{CoreFinds, answerOf, recordAt}
 use Rattle.search.specs.declared.EntryRecord.{EntryRecord}
 use Rattle.search.specs.declared.Core.{Core}
 use Rattle.search.specs.declared.Searched.{Searched}
@@ -65,8 +65,8 @@ module _ {M : Type 1} (𝓤 : URA M) (H : Heap 𝓤) (A : Atoms 𝓤) (W : Given
       qed W [] ∵ nothing ! $ owned ! usize (Is usize) (uint-makes 𝓤 H A W w64) len _ (refl, fits) $ fjoin ! $ owned ! u32 (Is u32) (uint-makes 𝓤 H A W w32) w _ is-w $ fjoin ! $
       owned ! K.the-row (Is K.the-row) (LL.makes K.the-type K′.the-plain 𝓤 H A) t _ is-t $ fjoin ! $ owned ! S.the-row (Is S.the-row) (LL.makes S.the-type S′.the-plain 𝓤 H A) seg _ is-seg $ fjoin ! $ nothing ! $ join ! $ frame ! $ done !
 
-  pub core-said : (r : Core) → ent 𝓤 (ensured 𝓤 H A core-c.ended (core-c.clauses 𝓤 H A mem run) tt (seg, (t, (w, (len, tt)))) tt r) (fact 𝓤 (Finds seg t w len r))
-  core-said r = exE 𝓤 _ (λ ws. snd∗ 𝓤 (sem 𝓤 H A (lasts core-c.ended tt (seg, (t, (w, (len, tt)))) ws)) (fact 𝓤 (Finds seg t w len r)))
+  pub core-said : (r : Core) → ent 𝓤 (ensured 𝓤 H A core-c.ended (core-c.clauses 𝓤 H A mem run) tt (seg, (t, (w, (len, tt)))) tt r) (fact 𝓤 (CoreFinds seg t w len r))
+  core-said r = exE 𝓤 _ (λ ws. snd∗ 𝓤 (sem 𝓤 H A (lasts core-c.ended tt (seg, (t, (w, (len, tt)))) ws)) (fact 𝓤 (CoreFinds seg t w len r)))
 
 -- ---- at what the core found
 
@@ -85,7 +85,7 @@ module _ {M : Type 1} (𝓤 : URA M) (H : Heap 𝓤) (A : Atoms 𝓤) (W : Given
   unfolding capacity
   whole-length = sym (length-map (d .entries) _) ∙ LL.owed C.the-type C′.the-laws d _ is-d .1 .0 .1 .0 .1
 
-  is-entries : Is (Array T.the-row 64) (d .entries) (entriesVal d ∷ [])
+  is-entries : Is (Array T.the-row mostMeters) (d .entries) (entriesVal d ∷ [])
   is-entries =
       let o = LL.owed C.the-type C′.the-laws d _ is-d .1 .0 in
       (o .0, ((o .1 .0 .0, sym (length-map (d .entries) _) ∙ o .1 .0 .1), each-alone (d .entries) (o .0) (o .1 .1)))
@@ -95,10 +95,10 @@ module _ {M : Type 1} (𝓤 : URA M) (H : Heap 𝓤) (A : Atoms 𝓤) (W : Given
 
   pub asks-entry : (i : ℕ) → i < 2 ^ 64 → i < capacity → ent 𝓤 (emp 𝓤) (EntryAt 𝓤 H A mem run .pre ((tt, tt, tt, (d .entries, (i, tt)), (entriesVal d ∷ [], (vint w64 i ∷ [], tt))), tt))
   asks-entry i gi small =
-      qed W [] ∵ says ! small $ nothing ! $ owned ! usize (Is usize) (uint-makes 𝓤 H A W w64) i _ (refl, gi) $ fjoin ! $ owned ! (Array T.the-row 64) (Is (Array T.the-row 64)) (array-makes 𝓤 H A W T.the-row (LL.makes T.the-type T′.the-plain 𝓤 H A) 64) (d .entries) _ is-entries $ fjoin ! $ nothing ! $ frame ! $ done !
+      qed W [] ∵ says ! small $ nothing ! $ owned ! usize (Is usize) (uint-makes 𝓤 H A W w64) i _ (refl, gi) $ fjoin ! $ owned ! (Array T.the-row mostMeters) (Is (Array T.the-row mostMeters)) (array-makes 𝓤 H A W T.the-row (LL.makes T.the-type T′.the-plain 𝓤 H A) mostMeters) (d .entries) _ is-entries $ fjoin ! $ nothing ! $ frame ! $ done !
 
   pub answer-said : (r : Searched) → ent 𝓤 (ensured 𝓤 H A answer.ended (answer.clauses 𝓤 H A mem run) tt (d, tt) tt r) (fact 𝓤 (r ≡ answerOf d))
   answer-said r = exE 𝓤 _ (λ ws. snd∗ 𝓤 (sem 𝓤 H A (lasts answer.ended tt (d, tt) ws)) (fact 𝓤 (r ≡ answerOf d)))
 
-  pub entry-said : (i : ℕ) (r : EntryRecord) → ent 𝓤 (ensured 𝓤 H A entry.ended (entry.clauses 𝓤 H A mem run) tt (d .entries, (i, tt)) tt r) (fact 𝓤 (r ≡ entryAt (d .entries) i))
-  entry-said i r = exE 𝓤 _ (λ ws. snd∗ 𝓤 (sem 𝓤 H A (lasts entry.ended tt (d .entries, (i, tt)) ws)) (fact 𝓤 (r ≡ entryAt (d .entries) i)))
+  pub entry-said : (i : ℕ) (r : EntryRecord) → ent 𝓤 (ensured 𝓤 H A entry.ended (entry.clauses 𝓤 H A mem run) tt (d .entries, (i, tt)) tt r) (fact 𝓤 (r ≡ recordAt (d .entries) i))
+  entry-said i r = exE 𝓤 _ (λ ws. snd∗ 𝓤 (sem 𝓤 H A (lasts entry.ended tt (d .entries, (i, tt)) ws)) (fact 𝓤 (r ≡ recordAt (d .entries) i)))

@@ -33,8 +33,8 @@ pub record Demanded (allowance : ℕ) (lent : List EntryRecord) (s : Plain) (w :
 
 -- "Demand 3's lists begin with an opening, accepted or not": after any such list, one more search that is not refused.
 -- `blank` is the segment that a refused first opening gives.
-abbrev pub Demand3 : Type 0
-Demand3 = (list : List ℕ) (bus : ℕ) (practice : Bool) (origin : Float) (cs : List Call) (k : Clock) (allowance : ℕ) (lent : List EntryRecord)
+abbrev pub PlainDemand3 : Type 0
+PlainDemand3 = (list : List ℕ) (bus : ℕ) (practice : Bool) (origin : Float) (cs : List Call) (k : Clock) (allowance : ℕ) (lent : List EntryRecord)
     → let s = afterCalls (opening list bus practice origin ∷ cs) blank in
     let r = searchCall k allowance lent s in
     r .number ≡ 0 → Demanded allowance lent s (wholeWalk k allowance s) r

@@ -4,7 +4,7 @@ use mathlib.Core.List.{List, _++_, map}
 use Prim.Native.Nat.{ℕ, zero, suc, _+_, _*_, _/_, _%_, _<_}
 use lib.Dec.{eqb}
 use lib.ListN.{take, drop, replicate}
-use Rattle.laws.specs.Words.{if_then_else_}
+use Rattle.laws.specs.Words.{if_then_else_, bitIf}
 use Rattle.identity.specs.Identity.{digitsOf}
 use Rattle.meter.specs.PlainMeter.{PlainMeter}
 use Rattle.meter.specs.Meter.{with, reached}
@@ -14,7 +14,6 @@ use Rattle.meter.specs.declared.Fault.the-variants.{None, Checksum, Truncated, 
 use Rattle.meter.specs.declared.LastFcb.{LastFcb}
 use Rattle.meter.specs.declared.LastFcb.the-variants.{Never, Clear}
 use Rattle.scenarios.specs.Opening.{capacity}
-use Rattle.packed.specs.Marks.{bitIf}
 use Rattle.search.specs.declared.EntryRecord.{EntryRecord}
 use Rattle.search.specs.declared.Kind.{Kind}
 use Rattle.search.specs.declared.Kind.the-variants.{One, Mute, Many}
@@ -38,8 +37,8 @@ markOf bus m =
     else 0
 
 -- a meter's key
-abbrev pub idOf : Meter → ℕ
-idOf m = m .id
+abbrev pub keyOf : Meter → ℕ
+keyOf m = m .id
 
 -- numbers of the first n meters, 0 past them
 unfoldable pub packed : (Meter → ℕ) → ℕ → List Meter → List ℕ
@@ -74,12 +73,12 @@ stand m selected fresh hears clear access readouts =
     with m (reached m) selected (partIn clear fresh (m .part), lastIn clear fresh (m .last)) (access, readouts) hears
 
 -- a meter at bus baud, as its mark has it
-unfoldable pub standing : PlainMeter → ℕ → PlainMeter
-standing m s = stand m (on (s % 2)) (on (s / 2 % 2)) (on (s / 4 % 2)) (on (s / 8 % 2)) (s / 65536 % 256) (s / 256 % 256)
+unfoldable pub asMarked : PlainMeter → ℕ → PlainMeter
+asMarked m s = stand m (on (s % 2)) (on (s / 2 % 2)) (on (s / 4 % 2)) (on (s / 8 % 2)) (s / 65536 % 256) (s / 256 % 256)
 
 -- a meter at another baud is left as it was
 unfoldable pub seenAs : ℕ → PlainMeter → ℕ → PlainMeter
-seenAs bus m s = if eqb (m .baud) bus then standing m s else m
+seenAs bus m s = if eqb (m .baud) bus then asMarked m s else m
 
 abbrev pub seenBy : ℕ → ℕ → PlainMeter → PlainMeter
 seenBy bus s m = seenAs bus m s

@@ -1,5 +1,5 @@
 -- What the program's searches give, in the terms of the definitions.
-use mathlib.Core.Path.{_≡_, refl}
+use mathlib.Core.Path.{_≡_}
 use mathlib.Core.Bool.{Bool, false, _&&_}
 use mathlib.Core.List.{List, [], _++_, map}
 use Prim.Native.Nat.{ℕ, _≤_, min}
@@ -8,11 +8,11 @@ use lib.ListN.{length, take, drop, getD}
 use Rattle.laws.specs.Words.{Every}
 use Rattle.meter.specs.View.{plainMeter}
 use Rattle.clock.specs.declared.Clock.{Clock}
-use Rattle.scenarios.specs.Opening.{capacity}
+use Rattle.scenarios.specs.Opening.{mostMeters, capacity}
 use Rattle.bus.specs.declared.Segment.{Segment}
 use Rattle.bus.specs.View.{plainOf}
 use Rattle.packed.specs.Marks.{sweptBy}
-use Rattle.packed.specs.Packed.{Run, wholeR}
+use Rattle.packed.specs.Packed.{RunR, wholeR}
 use Rattle.search.specs.declared.EntryRecord.{EntryRecord}
 use Rattle.search.specs.declared.Outcome.{Outcome}
 use Rattle.search.specs.declared.Outcome.the-variants.{Made, ClockOutOfRange, NotEmpty, TooFewLent}
@@ -21,20 +21,20 @@ use Rattle.search.specs.declared.Core.{Core}
 use Rattle.search.specs.declared.Searched as answers
 use Rattle.search.specs.SearchCall as definitions
 use Rattle.search.specs.SearchCall.{searchCall}
-use Rattle.search.specs.Packing.{idOf, markOf, packed, Bounded, seenBy, recordIn}
+use Rattle.search.specs.Packing.{keyOf, markOf, packed, Bounded, seenBy, recordIn}
 
 -- 01's number of an outcome
-abbrev pub numberOf : Outcome → ℕ
-numberOf Made = 0
-numberOf ClockOutOfRange = 14
-numberOf NotEmpty = 16
-numberOf TooFewLent = 17
+abbrev pub outcomeNumber : Outcome → ℕ
+outcomeNumber Made = 0
+outcomeNumber ClockOutOfRange = 14
+outcomeNumber NotEmpty = 16
+outcomeNumber TooFewLent = 17
 
 -- a search by value, with its entries in front of the records `lent`
 unfoldable pub coreGives : Core → List EntryRecord → definitions.Searched
 coreGives r lent =
     record {
-      number = numberOf (r .outcome);
+      number = outcomeNumber (r .outcome);
       count = r .count;
       probes = r .probes;
       spent = r .spent;
@@ -42,18 +42,10 @@ coreGives r lent =
       segment = plainOf (r .segment);
     }
 
--- the places of its array, as a number, and that they are the capacity
-abbrev pub places : ℕ
-places = 64
-
-pub places-are : places ≡ capacity
-unfolding capacity
-places-are = refl
-
 -- A search by value gives what 01's search gives into any `room` records lent; its entries fit both the array and the room.
-pub record Finds (s : Segment) (k : Clock) (allowance room : ℕ) (r : Core) : Type 0 where
+pub record CoreFinds (s : Segment) (k : Clock) (allowance room : ℕ) (r : Core) : Type 0 where
   pub gives : (lent : List EntryRecord) → length lent ≡ room → coreGives r lent ≡ searchCall k allowance lent (plainOf s)
-  pub fits : r .count ≤ places
+  pub fits : r .count ≤ mostMeters
   pub enough : r .count ≤ room
 
 -- ---- the search that writes the lent records
@@ -61,7 +53,7 @@ pub record Finds (s : Segment) (k : Clock) (allowance room : ℕ) (r : Core) : T
 -- its answer, with the lent records afterwards
 unfoldable pub searchedOf : answers.Searched → List EntryRecord → definitions.Searched
 searchedOf r lent =
-    record { number = numberOf (r .outcome); count = r .count; probes = r .probes; spent = r .spent; lent = lent; segment = plainOf (r .segment) }
+    record { number = outcomeNumber (r .outcome); count = r .count; probes = r .probes; spent = r .spent; lent = lent; segment = plainOf (r .segment) }
 
 -- what it answers of a search by value
 abbrev pub answerOf : Core → answers.Searched
@@ -72,8 +64,8 @@ abbrev pub noEntry : EntryRecord
 noEntry = record { kind = One; digits = []; count = 0 }
 
 -- the entry at a place
-abbrev pub entryAt : List EntryRecord → ℕ → EntryRecord
-entryAt es i = getD es i noEntry
+abbrev pub recordAt : List EntryRecord → ℕ → EntryRecord
+recordAt es i = getD es i noEntry
 
 -- ---- the parts of a search by value
 
@@ -91,12 +83,12 @@ pub record Empty (s : Segment) (r : Bool) : Type 0 where
   pub numbers : r ≡ (eqb (s .waiting) 0 && eqb (s .queued) 0)
 
 -- the meters there are
-abbrev pub held : Segment → ℕ
-held s = min (s .count) capacity
+abbrev pub metersHeld : Segment → ℕ
+metersHeld s = min (s .count) capacity
 
 -- the walk over the packed meters, from the mask with no digit
-unfoldable pub packedRun : Segment → ℕ → Run
-packedRun s allowance = wholeR (packed idOf (held s) (s .meters)) (packed (markOf (s .baud)) (held s) (s .meters)) allowance
+unfoldable pub packedRun : Segment → ℕ → RunR
+packedRun s allowance = wholeR (packed keyOf (metersHeld s) (s .meters)) (packed (markOf (s .baud)) (metersHeld s) (s .meters)) allowance
 
 -- a search that was made: what that walk found, and the meters put back; beside it what the types say of the meters
 pub record Walks (s : Segment) (allowance : ℕ) (r : Core) : Type 0 where
@@ -105,7 +97,7 @@ pub record Walks (s : Segment) (allowance : ℕ) (r : Core) : Type 0 where
   pub count : r .count ≡ length ((packedRun s allowance) .entries)
   pub probes : r .probes ≡ (packedRun s allowance) .probes
   pub spent : r .spent ≡ (packedRun s allowance) .spent
-  pub meters : map plainMeter (r .segment .meters) ≡ sweptBy (seenBy (s .baud)) (held s) ((packedRun s allowance) .marks) (map plainMeter (s .meters))
+  pub meters : map plainMeter (r .segment .meters) ≡ sweptBy (seenBy (s .baud)) (metersHeld s) ((packedRun s allowance) .marks) (map plainMeter (s .meters))
   pub rest : r .segment ≡ record {
     meters = r .segment .meters;
     count = s .count;
@@ -117,5 +109,5 @@ pub record Walks (s : Segment) (allowance : ℕ) (r : Core) : Type 0 where
     queued = s .queued;
   }
   pub marks : length ((packedRun s allowance) .marks) ≡ capacity
-  pub bounded : Every Bounded (take (held s) (s .meters))
+  pub bounded : Every Bounded (take (metersHeld s) (s .meters))
   pub all : length (s .meters) ≡ capacity

@@ -5,7 +5,7 @@ ghost use lib.ListN.{length};
 ghost use Rattle.scenarios.specs.Opening.{capacity};
 ghost use Rattle.bus.specs.View.{plainOf};
 ghost use Rattle.search.specs.SearchCall.{searchCall};
-ghost use Rattle.search.specs.View.{Empty, held, Walks, Refuses, Finds, answerOf, entryAt, searchedOf};
+ghost use Rattle.search.specs.View.{Empty, metersHeld, Walks, Refuses, CoreFinds, answerOf, recordAt, searchedOf};
 use bus::METERS;
 use bus::Segment;
 use clock::Clock;
@@ -101,14 +101,14 @@ fn is_empty(segment: Segment) -> bool
 
 // The meters opened.
 fn meter_count(segment: Segment) -> usize
-    ensures { λ r. ⌜ (r ≡ length ((plainOf segment) .meters)) × (r ≡ held segment) ⌝ }
+    ensures { λ r. ⌜ (r ≡ length ((plainOf segment) .meters)) × (r ≡ metersHeld segment) ⌝ }
 {
     least(segment.count, METERS)
 }
 
 // A search, by value; `room` is the number of entry records lent. It checks 14, 16, 17.
 pub fn search_core(segment: Segment, clock: Clock, allowance: u32, room: usize) -> Core
-    ensures { λ r. ⌜ Finds segment clock allowance room r ⌝ }
+    ensures { λ r. ⌜ CoreFinds segment clock allowance room r ⌝ }
 {
     if !good_clock(clock) {
         let out = Outcome::ClockOutOfRange;
@@ -150,7 +150,7 @@ fn answer(core: Core) -> Searched
 
 fn entry_at(entries: [EntryRecord; METERS], i: usize) -> EntryRecord
     requires { ⌜ i < capacity ⌝ }
-    ensures { λ r. ⌜ r ≡ entryAt entries i ⌝ }
+    ensures { λ r. ⌜ r ≡ recordAt entries i ⌝ }
 {
     entries[i]
 }

@@ -8,15 +8,15 @@ ghost use Rattle.identity.specs.Identity.{digitsOf};
 ghost use Rattle.meter.specs.View.{plainMeter};
 ghost use Rattle.scenarios.specs.Opening.{capacity};
 ghost use Rattle.packed.specs.Marks.{sweptBy};
-ghost use Rattle.search.specs.Packing.{faultBits, idOf, markOf, Bounded, packed, lastIn, partIn, seenAs, seenBy, kindIn, countIn, recordIn};
+ghost use Rattle.search.specs.Packing.{faultBits, keyOf, markOf, Bounded, packed, lastIn, partIn, seenAs, seenBy, kindIn, countIn, recordIn};
 use crate::EntryRecord;
 use crate::Kind;
 use bus::METERS;
+use laws::bit;
 use laws::least;
 use meter::Fault;
 use meter::LastFcb;
 use meter::Meter;
-use packed::marks::bit;
 
 fn zeros() -> [u32; METERS]
     ensures { λ r. ⌜ r ≡ replicate capacity 0 ⌝ }
@@ -52,7 +52,7 @@ fn mark_of(m: Meter, bus: u32) -> u32
 }
 
 pub(crate) fn keys_of(meters: [Meter; METERS], count: usize) -> [u32; METERS]
-    ensures { λ r. ⌜ r ≡ packed idOf (min count capacity) meters ⌝ }
+    ensures { λ r. ⌜ r ≡ packed keyOf (min count capacity) meters ⌝ }
 {
     let mut keys = zeros();
     let end = least(count, METERS);

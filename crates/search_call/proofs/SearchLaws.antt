@@ -8,6 +8,7 @@ use native.Mathlib.Numerals.{add-one}
 use lib.Dec.{eqb, ltb}
 use lib.ListN.{length, take, drop, getD, replicate, length-append, length-replicate}
 use lib.Seq.{paste, take-at, take-suc, drop-drop, drop-append-add, length-take-le}
+use Rattle.scenarios.specs.Opening.{mostMeters}
 use Rattle.laws.proofs.Lists.{if-all}
 use Rattle.laws.specs.Words.{at}
 use Rattle.values.specs.Values.{little}
@@ -20,7 +21,7 @@ use Rattle.bus.specs.declared.Segment.{Segment}
 use Rattle.search.specs.declared.EntryRecord.{EntryRecord}
 use Rattle.search.specs.declared.Core.{Core}
 use Rattle.search.specs.SearchCall.{Searched, searchCall}
-use Rattle.search.specs.View.{noEntry, numberOf, coreGives, Finds}
+use Rattle.search.specs.View.{noEntry, outcomeNumber, coreGives, CoreFinds}
 use Rattle.image.specs.Image.{imaged}
 use Rattle.search_call.specs.Searches.{kindByte, entryBytes, rows, summaryOf, searchBy, Searches}
 
@@ -116,7 +117,7 @@ search-stays k allowance lent s =
     (if-all (Stays s) (not (eqb (length (s .input)) 0 && eqb (length (s .queue)) 0)) _ _ (λ _. (refl, refl))
     (if-all (Stays s) (ltb (length lent) (length (s .meters))) _ _ (λ _. (refl, refl)) (λ h. absurd (omega (arith, h)))))
 
-module _ (k : Clock) (allowance : ℕ) (entries image : List ℕ) (s : Segment) (i : plainOf s ≡ imaged image) (r : Core) (f : Finds s k allowance (length entries / 16) r) where
+module _ (k : Clock) (allowance : ℕ) (entries image : List ℕ) (s : Segment) (i : plainOf s ≡ imaged image) (r : Core) (f : CoreFinds s k allowance (length entries / 16) r) where
   abbrev lent : List EntryRecord
   lent = replicate (length entries / 16) noEntry
 
@@ -127,7 +128,7 @@ module _ (k : Clock) (allowance : ℕ) (entries image : List ℕ) (s : Segment) 
   unfolding searchBy
   gives = f .gives lent (length-replicate (length entries / 16) noEntry) ∙ ap (searchCall k allowance lent) i
 
-  number-gives : numberOf (r .outcome) ≡ want .number
+  number-gives : outcomeNumber (r .outcome) ≡ want .number
   unfolding coreGives
   number-gives = ap (λ (x : Searched). x .number) gives
 
@@ -151,7 +152,7 @@ module _ (k : Clock) (allowance : ℕ) (entries image : List ℕ) (s : Segment) 
   unfolding coreGives
   lent-gives = ap (λ (x : Searched). x .lent) gives
 
-  pub search-refused : (n : ℕ) (summary : List ℕ) → n ≡ numberOf (r .outcome) → 0 < n → Searches want n image image entries entries summary summary
+  pub search-refused : (n : ℕ) (summary : List ℕ) → n ≡ outcomeNumber (r .outcome) → 0 < n → Searches want n image image entries entries summary summary
   unfolding searchBy
   search-refused n summary e h =
       let m : n ≡ want .number = e ∙ number-gives in
@@ -166,7 +167,7 @@ module _ (k : Clock) (allowance : ℕ) (entries image : List ℕ) (s : Segment) 
         summary-kept = λ _. refl;
       }
 
-  pub search-made : (image₁ entries₁ summary summary₁ : List ℕ) → 0 ≡ numberOf (r .outcome) → imaged image₁ ≡ plainOf (r .segment) → length (r .entries) ≡ 64
+  pub search-made : (image₁ entries₁ summary summary₁ : List ℕ) → 0 ≡ outcomeNumber (r .outcome) → imaged image₁ ≡ plainOf (r .segment) → length (r .entries) ≡ mostMeters
       → entries₁ ≡ rows (take (r .count) (r .entries)) ++ drop (16 * r .count) entries
       → summary₁ ≡ summaryOf (r .count) (r .probes) (r .spent)
       → Searches want 0 image image₁ entries entries₁ summary summary₁

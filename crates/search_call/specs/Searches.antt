@@ -4,7 +4,7 @@ use mathlib.Core.Bool.{Bool, true, false}
 use mathlib.Core.List.{List, [], _∷_, _++_}
 use Prim.Native.Nat.{ℕ, _*_, _/_, _<_}
 use lib.ListN.{length, take, drop, replicate}
-use Rattle.laws.specs.Words.{if_then_else_, at}
+use Rattle.laws.specs.Words.{at, bitIf}
 use Rattle.values.specs.Values.{little}
 use Rattle.clock.specs.declared.Clock.{Clock}
 use Rattle.search.specs.declared.Kind.{Kind}
@@ -32,13 +32,9 @@ unfoldable pub rows : List EntryRecord → List ℕ
 rows [] = []
 rows (e ∷ es) = entryBytes e ++ rows es
 
--- 1 for yes
-abbrev pub flagNumber : Bool → ℕ
-flagNumber b = if b then 1 else 0
-
 -- entries, probes, spent: four bytes each, low byte first
 abbrev pub summaryOf : ℕ → ℕ → Bool → List ℕ
-summaryOf count probes spent = little 4 count ++ little 4 probes ++ little 4 (flagNumber spent)
+summaryOf count probes spent = little 4 count ++ little 4 probes ++ little 4 (bitIf spent)
 
 -- 01's search of a segment, with as many records lent as there are whole 16 bytes in the lent bytes. What stood in them has no part in what it finds.
 unfoldable pub searchBy : Clock → ℕ → List ℕ → Plain → Searched

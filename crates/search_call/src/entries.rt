@@ -4,8 +4,10 @@ ghost use mathlib.Core.List.{_++_};
 ghost use Prim.Native.Nat.{_+_, _*_, _≤_};
 ghost use lib.ListN.{length, take, drop};
 ghost use lib.Seq.{paste};
-ghost use Rattle.search_call.specs.Searches.{kindByte, entryBytes, rows, flagNumber, summaryOf};
+ghost use Rattle.scenarios.specs.Opening.{mostMeters};
+ghost use Rattle.search_call.specs.Searches.{kindByte, entryBytes, rows, summaryOf};
 use bus::METERS;
+use laws::bit;
 use search::EntryRecord;
 use search::Kind;
 
@@ -60,7 +62,7 @@ fn copy(from: &[u8], n: usize, to: &mut [u8], p: usize)
 
 // The first count entries, 16 bytes each; the bytes past them stay.
 pub(crate) fn put_entries(found: [EntryRecord; METERS], count: usize, lent: &mut [u8])
-    requires { ⌜ (count ≤ 64) × (16 * count ≤ length (now lent)) ⌝ }
+    requires { ⌜ (count ≤ mostMeters) × (16 * count ≤ length (now lent)) ⌝ }
     ensures { λ _. ⌜ now (lent .exit) ≡ rows (take count found) ++ drop (16 * count) (now (lent .entry)) ⌝ }
 {
     let mut i: usize = 0;
@@ -72,18 +74,12 @@ pub(crate) fn put_entries(found: [EntryRecord; METERS], count: usize, lent: &mut
     }
 }
 
-fn flag_number(b: bool) -> u64
-    ensures { λ r. ⌜ r ≡ flagNumber b ⌝ }
-{
-    if b { 1 } else { 0 }
-}
-
 pub(crate) fn summary_of(count: usize, probes: u32, spent: bool) -> [u8; 12]
     ensures { λ r. ⌜ r ≡ summaryOf count probes spent ⌝ }
 {
     let c = values::le4(count as u64);
     let p = values::le4(probes as u64);
-    let s = values::le4(flag_number(spent));
+    let s = values::le4(bit(spent) as u64);
     [
         c[0],
         c[1],

@@ -9,7 +9,7 @@ use image::IMAGE;
 mod entries; // entries.rt: the entries of a search and its summary, as bytes
 
 fn outcome_number(outcome: search::Outcome) -> u32
-    ensures { λ r. ⌜ r ≡ View.numberOf outcome ⌝ }
+    ensures { λ r. ⌜ r ≡ View.outcomeNumber outcome ⌝ }
 {
     match outcome {
         search::Outcome::Made => 0,

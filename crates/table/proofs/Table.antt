@@ -8,7 +8,7 @@ use lib.Ieee.{round, sub}
 use lib.ListN.{length, replicate}
 use Rattle.frame.specs.Frame.{short, encode, sum, parse, parseShort, parseLong, parseBody}
 use Rattle.values.specs.Values.{bcd, little}
-use Rattle.identity.specs.Identity.{makerCode, idBytes, nibbles, decimal}
+use Rattle.identity.specs.Identity.{makerCode, idBytes, nibbles, inBase}
 use Rattle.dates.specs.Dates.{typeG, typeF}
 use Rattle.seconds.specs.Seconds.{whole, elapsedOf, notBelow0}
 use Rattle.meter.specs.Meter.{hears, put}
@@ -22,7 +22,7 @@ use Rattle.rules.specs.Tables.{media, faults}
 use Rattle.meter_list.specs.Layout.{readTexts, readRecords}
 use Rattle.rules.specs.Check.{goodId, goodMaker, check}
 use Rattle.scenarios.specs.Opening.{capacity, opens, openRecords, openList}
-use Rattle.fresh_meter.specs.Fresh.{ownBaud, seedOf, fresh}
+use Rattle.fresh_meter.specs.Fresh.{otherThanBus, ownBaud, seedOf, fresh}
 use Rattle.builtins.specs.Builtins.{ok10}
 use Rattle.bus.specs.Plain.{Plain, blank}
 use Rattle.bus.specs.Calls.{afterOpening}
@@ -43,7 +43,7 @@ use Rattle.table.specs.Table.{zeroSeconds, october, opened, walked, outc
 
 -- to unfold this is to unfold every definition that a search computes with
 everything : ℕ
-unfolding encode sum parse parseShort parseLong parseBody makerCode bcd typeG typeF idBytes nibbles decimal little whole elapsedOf sub round notBelow0 hears put alike matches asked fixedData head clockF heatFirst heatSecond electricity water userData response damaged readout rates target nke request select commanded listens hear media faults readTexts readRecords goodId goodMaker check capacity ownBaud seedOf fresh openRecords openList blank joined heardBy handled steps settled afterOpening goodClock send ten walk wholeWalk maskDigits mask reading ask probe good idOf entryOf read
+unfolding encode sum parse parseShort parseLong parseBody makerCode bcd typeG typeF idBytes nibbles inBase little whole elapsedOf sub round notBelow0 hears put alike matches asked fixedData head clockF heatFirst heatSecond electricity water userData response damaged readout rates target nke request select commanded listens hear media faults readTexts readRecords goodId goodMaker check capacity otherThanBus ownBaud seedOf fresh openRecords openList blank joined heardBy handled steps settled afterOpening goodClock send ten walk wholeWalk maskDigits mask reading ask probe good idOf entryOf read
 everything = 0
 
 line-a : encode (mask []) ≡ 0x68 ∷ 0x0B ∷ 0x0B ∷ 0x68 ∷ 0x53 ∷ 0xFD ∷ 0x52 ∷ 0xFF ∷ 0xFF ∷ 0xFF ∷ 0xFF ∷ 0xFF ∷ 0xFF ∷ 0xFF ∷ 0xFF ∷ 0x9A ∷ 0x16 ∷ []
@@ -92,7 +92,7 @@ unfolding everything ok10
 line-l-price = omega (arith, line-l, ok10-demanded .steady (refl, (refl, (refl, (refl, (refl, (refl, (refl, (refl, (refl, (refl, tt)))))))))) .complete not-spent .probes)
 
 pub table : Table
-unfolding makerCode bcd idBytes maskDigits typeG joined whole elapsedOf round sub seedOf decimal
+unfolding makerCode bcd idBytes maskDigits typeG joined whole elapsedOf round sub seedOf inBase
 table =
     record {
       a = line-a;

@@ -6,7 +6,7 @@ ghost use Rattle.values.specs.Values.{little};
 ghost use Rattle.telegram_writer.specs.Writer.{write};
 ghost use Rattle.frame.specs.Frame as definitions;
 ghost use Rattle.frame.specs.View.{telegramOf, whyOf};
-ghost use Rattle.telegram_writer.specs.View.{numberOf, countOf};
+ghost use Rattle.telegram_writer.specs.View.{writtenNumber, writtenCount};
 ghost use Rattle.telegram_calls.specs.Telegrams.{whyNumber, headOf, telegramBy, Parses, Writes};
 use frame::Frame;
 use frame::Outcome;
@@ -100,8 +100,8 @@ fn frame_by(kind: u8, control: u8, address: u8, ci: u8) -> Frame
 
 // number * 65536 + bytes written
 fn packed_written(w: Written) -> u32
-    requires { ⌜ countOf w < 65536 ⌝ }
-    ensures { λ r. ⌜ r ≡ numberOf w * 65536 + countOf w ⌝ }
+    requires { ⌜ writtenCount w < 65536 ⌝ }
+    ensures { λ r. ⌜ r ≡ writtenNumber w * 65536 + writtenCount w ⌝ }
 {
     match w {
         Written::Bytes(n) => n as u32,

@@ -21,8 +21,8 @@ use Rattle.bus.proofs.OpenLaws.{opening-accepted, opening-refused}
 use Rattle.send.specs.Send.{send}
 use Rattle.search.specs.declared.Core.{Core}
 use Rattle.search.specs.SearchCall.{Searched, searchCall}
-use Rattle.search.specs.View.{noEntry, coreGives, Finds}
-use Rattle.timing.specs.Repeated.{accepted, acceptedSends, acceptedOpenings, probesMade}
+use Rattle.search.specs.View.{noEntry, coreGives, CoreFinds}
+use Rattle.timing.specs.Repeated.{oneIfAccepted, acceptedSends, acceptedOpenings, probesMade}
 
 left-before : (times i : ℕ) → i < times → times - i ≡ suc (times - (i + 1))
 left-before times i h = omega (arith, h)
@@ -35,7 +35,7 @@ left-all times = omega arith
 
 -- ---- sends
 
-pub accepted-small : (n : ℕ) → accepted n ≤ 1
+pub accepted-small : (n : ℕ) → oneIfAccepted n ≤ 1
 accepted-small zero = omega arith
 accepted-small (suc n) = omega arith
 
@@ -49,7 +49,7 @@ module _ (piece : List ℕ) (k : Clock) where
   unfolding acceptedSends
   no-sends s = refl
 
-  one-send : (n : ℕ) (s : Plain) → acceptedSends piece k (suc n) s ≡ accepted (send piece k s .number) + acceptedSends piece k n (clear (send piece k s .segment))
+  one-send : (n : ℕ) (s : Plain) → acceptedSends piece k (suc n) s ≡ oneIfAccepted (send piece k s .number) + acceptedSends piece k n (clear (send piece k s .segment))
   unfolding acceptedSends
   one-send n s = refl
 
@@ -58,13 +58,13 @@ module _ {piece : List ℕ} {k : Clock} {times : ℕ} {s₀ : Plain} where
   sends-none = record { few = omega arith; whole = omega (arith, ap (λ (m : ℕ). acceptedSends piece k m s₀) (left-all times)) }
 
   pub sends-more : {i n : ℕ} {s : Plain} → Sends piece k times s₀ i n s → i < times → (d : Done) → d ≡ send piece k s
-      → Sends piece k times s₀ (i + 1) (n + accepted (d .number)) (clear (d .segment))
+      → Sends piece k times s₀ (i + 1) (n + oneIfAccepted (d .number)) (clear (d .segment))
   sends-more {i} {n} {s} r h d e =
       let m = times - (i + 1) in
       let turn =
       ap (λ (x : ℕ). acceptedSends piece k x s) (left-before times i h)
       ∙ one-send piece k m s
-      ∙ ap (λ (x : Done). accepted (x .number) + acceptedSends piece k m (clear (x .segment))) (sym e) in
+      ∙ ap (λ (x : Done). oneIfAccepted (x .number) + acceptedSends piece k m (clear (x .segment))) (sym e) in
       record { few = omega (arith, r .few, accepted-small (d .number)); whole = omega (arith, turn, r .whole) }
 
   pub sends-all : {i n : ℕ} {s : Plain} → Sends piece k times s₀ i n s → times ≤ i → n ≡ acceptedSends piece k times s₀
@@ -139,7 +139,7 @@ module _ {k : Clock} {allowance times : ℕ} {s₀ : Plain} where
   pub searches-none : Searches k allowance times s₀ 0 0 s₀
   searches-none = record { small = omega arith; whole = omega (arith, ap (λ (m : ℕ). probesMade k allowance m s₀) (left-all times)) }
 
-  pub searches-more : {i n : ℕ} {s : Segment} → Searches k allowance times s₀ i n (plainOf s) → i < times → (r : Core) → Finds s k allowance capacity r
+  pub searches-more : {i n : ℕ} {s : Segment} → Searches k allowance times s₀ i n (plainOf s) → i < times → (r : Core) → CoreFinds s k allowance capacity r
       → Searches k allowance times s₀ (i + 1) ((n + r .probes) % 2 ^ 32) (plainOf (r .segment))
   unfolding coreGives
   searches-more {i} {n} {s} v h r f =

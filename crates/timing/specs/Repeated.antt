@@ -11,14 +11,14 @@ use Rattle.search.specs.SearchCall.{searchCall}
 use Rattle.search.specs.View.{noEntry}
 
 -- one call accepted or none, by the number of its refusal (0: accepted)
-abbrev pub accepted : ℕ → ℕ
-accepted zero = 1
-accepted (suc n) = 0
+abbrev pub oneIfAccepted : ℕ → ℕ
+oneIfAccepted zero = 1
+oneIfAccepted (suc n) = 0
 
 -- of so many sends of a piece, those accepted; after each the queue is emptied
 unfoldable pub acceptedSends : List ℕ → Clock → ℕ → Plain → ℕ
 acceptedSends piece k zero s = 0
-acceptedSends piece k (suc n) s = let d = send piece k s in accepted (d .number) + acceptedSends piece k n (clear (d .segment))
+acceptedSends piece k (suc n) s = let d = send piece k s in oneIfAccepted (d .number) + acceptedSends piece k n (clear (d .segment))
 
 -- Of so many openings, those accepted. The segment in use has no part in whether an opening is accepted: all are, or none.
 abbrev pub acceptedOpenings : Opened → ℕ → ℕ

@@ -7,7 +7,7 @@ ghost use Rattle.refusals.specs.Refusals.{isAccepted};
 ghost use Rattle.bus.specs.View.{plainOf};
 ghost use Rattle.send.specs.View.{sendingNumber};
 ghost use Rattle.image.specs.Image.{imaged};
-ghost use Rattle.timing.specs.Repeated.{accepted, acceptedSends, acceptedOpenings, probesMade};
+ghost use Rattle.timing.specs.Repeated.{oneIfAccepted, acceptedSends, acceptedOpenings, probesMade};
 use bus::METERS;
 use bus::Segment;
 use clock::Clock;
@@ -17,7 +17,7 @@ use send::Sending;
 
 // 1 for an accepted send.
 fn accepted_send(answer: Sending) -> u32
-    ensures { λ r. ⌜ r ≡ accepted (sendingNumber answer) ⌝ }
+    ensures { λ r. ⌜ r ≡ oneIfAccepted (sendingNumber answer) ⌝ }
 {
     match answer {
         Sending::Accepted => 1,

@@ -18,7 +18,7 @@ use Rattle.meter.specs.declared.Fault.the-variants.{None}
 use Rattle.meter.specs.Meter.{hears}
 use Rattle.meter.specs.View.{plainMeter}
 use Rattle.hear.proofs.HearLaws.{Alike, probed-alike, read-alike}
-use Rattle.scenarios.specs.Opening.{capacity}
+use Rattle.scenarios.specs.Opening.{mostMeters, capacity}
 use Rattle.bus.specs.Plain.{Plain}
 use Rattle.bus.specs.declared.Segment.{Segment}
 use Rattle.bus.specs.View.{plainOf}
@@ -45,7 +45,7 @@ pub well-sized : (s : Plain) → WellFormed s → Sized s
 well-sized s w = record { few = w .few; eight = every-map (λ m i. i .0) (s .meters) (w .ids) }
 
 -- the program's segment, whatever it holds
-pub plain-sized : (s : Segment) → length (s .meters) ≡ 64 → Sized (plainOf s)
+pub plain-sized : (s : Segment) → length (s .meters) ≡ mostMeters → Sized (plainOf s)
 unfolding plainOf capacity digitsOf
 plain-sized s h = record { few = omega (arith, length-map (take (s .count) (s .meters)) plainMeter, length-take (s .count) (s .meters)); eight = every-image (λ m. length (m .digits) ≡ 8) plainMeter (take (s .count) (s .meters)) (every-all (λ m. refl) (take (s .count) (s .meters))) }
 

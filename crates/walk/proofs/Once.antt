@@ -8,11 +8,11 @@ use native.Mathlib.Omega.{arith}
 use lib.Dec.{eqb}
 use lib.ListN.{length, length-append}
 use borrow.Author.Tests.{eq-eqb, eqb-true, eqb-false}
-use Rattle.laws.specs.Words.{keep}
+use Rattle.laws.specs.Words.{keep, sameList}
 use Rattle.laws.proofs.Lists.{and-l, and-r}
 use Rattle.meter.specs.PlainMeter.{PlainMeter}
 use Rattle.walk.specs.Walk.{Entry, one, mute, many, ten}
-use Rattle.walk.specs.Entries.{readingFails, loneEntry, having, begins, each, sameDigits, inEntry}
+use Rattle.walk.specs.Entries.{readingFails, loneEntry, having, begins, each, inEntry}
 use Rattle.walk.proofs.Model.{Digits, Prefix, no-digit, ten-digits, prefix-longer}
 use Rattle.walk.proofs.Sums.{total, total-zero, total-each, count, count-total, count-cons, bit}
 use Rattle.walk.proofs.Cut.{traced, trace, all}
@@ -49,28 +49,28 @@ total-digits (d ∷ ds) h f g e = ap₂ (λ x y. x + y) (e d (h .0)) (total-digi
 
 -- ---- the test for the same digits
 
-same-refl : (xs : List ℕ) → sameDigits xs xs ≡ true
+same-refl : (xs : List ℕ) → sameList xs xs ≡ true
 same-refl [] = refl
 same-refl (x ∷ xs) = rw (eq-eqb x x refl) (same-refl xs)
 
-same-begins : (p id : List ℕ) → length p ≡ length id → sameDigits p id ≡ begins p id
+same-begins : (p id : List ℕ) → length p ≡ length id → sameList p id ≡ begins p id
 same-begins [] [] h = refl
 same-begins [] (x ∷ id) h = absurd (omega arith)
 same-begins (d ∷ p) [] h = refl
 same-begins (d ∷ p) (x ∷ id) h = rw (same-begins p id (omega arith))
 
-pub same-eq : (xs ys : List ℕ) → sameDigits xs ys ≡ true → xs ≡ ys
+pub same-eq : (xs ys : List ℕ) → sameList xs ys ≡ true → xs ≡ ys
 same-eq [] [] e = refl
 same-eq [] (y ∷ ys) e = absurd (false≢true e)
 same-eq (x ∷ xs) [] e = absurd (false≢true e)
 same-eq (x ∷ xs) (y ∷ ys) e =
-    ap₂ (λ a as′. a ∷ as′) (eqb-true x y (and-l (eqb x y) (sameDigits xs ys) e)) (same-eq xs ys (and-r (eqb x y) (sameDigits xs ys) e))
+    ap₂ (λ a as′. a ∷ as′) (eqb-true x y (and-l (eqb x y) (sameList xs ys) e)) (same-eq xs ys (and-r (eqb x y) (sameList xs ys) e))
 
 -- of two ids, one with the prefix and one without
-same-apart : (p xs ys : List ℕ) → begins p xs ≡ true → begins p ys ≡ false → sameDigits xs ys ≡ false
-same-apart p xs ys h k = go (sameDigits xs ys) refl
+same-apart : (p xs ys : List ℕ) → begins p xs ≡ true → begins p ys ≡ false → sameList xs ys ≡ false
+same-apart p xs ys h k = go (sameList xs ys) refl
   where
-    go : (b : Bool) → sameDigits xs ys ≡ b → b ≡ false
+    go : (b : Bool) → sameList xs ys ≡ b → b ≡ false
     go true e = absurd (true≢false (sym h ∙ ap (begins p) (same-eq xs ys e) ∙ k))
     go false e = refl
 
@@ -107,7 +107,7 @@ module _ (m : PlainMeter) where
       → inEntry m (loneEntry p k) ≡ begins p (m .digits)
   lone-in p w eight k is h = go (readingFails k)
     where
-      by : (b : Bool) → begins p (m .digits) ≡ b → sameDigits (k .digits) (m .digits) ≡ b
+      by : (b : Bool) → begins p (m .digits) ≡ b → sameList (k .digits) (m .digits) ≡ b
       by true e = rw (is e) (same-refl (k .digits))
       by false e = same-apart p (k .digits) (m .digits) h e
 

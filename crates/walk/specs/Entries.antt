@@ -5,7 +5,7 @@ use mathlib.Core.List.{List, [], _∷_, _++_, map, dropLast}
 use Prim.Native.Nat.{ℕ, zero, suc, _+_}
 use lib.Dec.{eqb, leb, ltb}
 use lib.ListN.{length}
-use Rattle.laws.specs.Words.{if_then_else_, keep, Every}
+use Rattle.laws.specs.Words.{if_then_else_, keep, Every, sameList}
 use Rattle.meter.specs.PlainMeter.{PlainMeter}
 use Rattle.meter.specs.declared.Fault.{Fault}
 use Rattle.meter.specs.declared.Fault.the-variants.{None, Checksum, Truncated, Busy, WrongAddress, Flaky, TooMany}
@@ -108,17 +108,11 @@ entriesOf ms = each (dictionary 8) (entryAt ms)
 
 -- ---- a meter in an entry
 
-abbrev pub sameDigits : List ℕ → List ℕ → Bool
-sameDigits [] [] = true
-sameDigits [] (y ∷ ys) = false
-sameDigits (x ∷ xs) [] = false
-sameDigits (x ∷ xs) (y ∷ ys) = eqb x y && sameDigits xs ys
-
 -- "A meter is in an entry whose id is its own, or whose mute mask its id matches."
 abbrev pub inEntry : PlainMeter → Entry → Bool
-inEntry m (one id) = sameDigits id (m .digits)
+inEntry m (one id) = sameList id (m .digits)
 inEntry m (mute p) = alike (maskDigits p) (m .digits)
-inEntry m (many id n) = sameDigits id (m .digits)
+inEntry m (many id n) = sameList id (m .digits)
 
 -- ---- rising order
 

@@ -11,7 +11,7 @@ use Rattle.walk.specs.Walk.{Entry, Walked}
 use Rattle.walk.specs.Entries.{D, entriesOf, inEntry, Rising}
 
 -- A search over the meters ms at bus baud that was not spent: its price, 01's entries, their order, and each meter in exactly one of them
-pub record Complete (ms : List PlainMeter) (w : Walked) : Type 0 where
+pub record CompleteSearch (ms : List PlainMeter) (w : Walked) : Type 0 where
   pub probes : w .probes ≡ 1 + 10 * D ms
   pub entries : w .entries ≡ entriesOf ms
   pub rising : Rising (w .entries)
@@ -21,4 +21,4 @@ pub record Complete (ms : List PlainMeter) (w : Walked) : Type 0 where
 pub record Steady (allowance : ℕ) (ms : List PlainMeter) (w : Walked) : Type 0 where
   pub spent : (w .spent ≡ true) ↔ (allowance < 1 + 10 * D ms)
   pub sofar : w .spent ≡ true → (rest : List Entry) × (entriesOf ms ≡ w .entries ++ rest)
-  pub complete : w .spent ≡ false → Complete ms w
+  pub complete : w .spent ≡ false → CompleteSearch ms w

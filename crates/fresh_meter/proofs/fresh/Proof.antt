@@ -4,15 +4,15 @@ use Rattle.fresh_meter.specs.FreshOf.{freshOf}
 use Rattle.fresh_meter.proofs.fresh.Statement.{statement}
 use Rattle.fresh_meter.proofs.fresh.Tie as tie
 
-own-baud-requires : tie.Need-own-baud-requires
-own-baud-requires c κs = search needs
+baud-of-requires : tie.Need-baud-of-requires
+baud-of-requires c κs = search needs
 
 seed-of-requires : tie.Need-seed-of-requires
 seed-of-requires c κs = search needs
 
 returns : tie.Need-returns
 unfolding freshOf
-returns c = rw (c .before .own-baud .ensures, c .seed-of .ensures)
+returns c = rw (c .before .baud-of .ensures, c .seed-of .ensures)
 
 pub fresh-spec : {M : Type 1} → statement M
-fresh-spec = tie.close (tie.spec own-baud-requires seed-of-requires returns)
+fresh-spec = tie.close (tie.spec baud-of-requires seed-of-requires returns)

@@ -47,6 +47,7 @@ use denote.Triple.Table.{entered, cited}
 use denote.Triple.Walked.{says, Stays, stay-none, stay-none-slice, walkOf, goes-none, goes-none-slice, Walks, ends-at, walked, walk-meets}
 use denote.Exit.{yes}
 use denote.Triple.Clauses.{ensured, lasts}
+use Rattle.scenarios.specs.Opening.{mostMeters}
 use Rattle.meter_list.specs.Reading.{stepAt, nextOf}
 use Rattle.scenarios.specs.Gather.{noMeters, admitted, standsAt, gathered, gatheredOf}
 use Rattle.meter_list.specs.declared.Reader.{Reader}
@@ -269,13 +270,13 @@ module _ {M : Type 1} (𝓤 : URA M) (H : Heap 𝓤) (A : Atoms 𝓤) (W : Given
       frame ! $ nothing ! $ owned ! bool (Is bool) (bool-makes 𝓤 H A W) p _ is-p $ fjoin ! $ owned ! u32 (Is u32) (uint-makes 𝓤 H A W w32) b _ is-b $ fjoin ! $ move ! (1 ∷ 0 ∷ []) $ fjoin ! $ frame ! $ owned ! AC.the-row (Is AC.the-row) (LL.makes AC.the-type AC′.the-plain 𝓤 H A) a _ is $ done !
 
   abbrev Upto : Type 0
-  Upto = (i : ℕ) × ((i ≤ 64) × ((standsAt (now s) i < 2 ^ 64) × Fits (ac i)))
+  Upto = (i : ℕ) × ((i ≤ mostMeters) × ((standsAt (now s) i < 2 ^ 64) × Fits (ac i)))
 
   abbrev Nearer : Upto → Upto → Type 0
-  Nearer j i = 64 - j .0 < 64 - i .0
+  Nearer j i = mostMeters - j .0 < mostMeters - i .0
 
   Nearer-wf : WellFounded Nearer
-  Nearer-wf = InvImage·wf (λ (i : Upto). 64 - i .0) (Nat·lt-wfRel .wf)
+  Nearer-wf = InvImage·wf (λ (i : Upto). mostMeters - i .0) (Nat·lt-wfRel .wf)
 
   module _ (𝓣 : Tables 𝓤 H) (known-new : Triple 𝓤 (𝓣 .C #meter-list·new) (New 𝓤 H A mem run)) (known-next : Triple 𝓤 (𝓣 .C #meter-list·next) (Next 𝓤 H A mem run)) (known-begin : Triple 𝓤 (𝓣 .C #scenarios·opening·begin) (Begin 𝓤 H A mem run)) (known-admit : Triple 𝓤 (𝓣 .C #scenarios·opening·admit) (Admit 𝓤 H A mem run)) where
     abbrev fm : FmC 𝓤 H (W .laws) (𝓣 .C)
@@ -312,7 +313,7 @@ module _ {M : Type 1} (𝓤 : URA M) (H : Heap 𝓤) (A : Atoms 𝓤) (W : Given
       n i = ac (i .0)
 
       -- the rest of a turn, once `next` has given what it gives
-      handed : (i : Upto) → i .0 < 64 → Is (RD.the-row α) (nextOf (rd (k i))) (nv (k i) ∷ [])
+      handed : (i : Upto) → i .0 < mostMeters → Is (RD.the-row α) (nextOf (rd (k i))) (nv (k i) ∷ [])
           → Sq W (Tok ∷ ‵ Own ∷ ‵ (froom S′.mir m₀ 0) ∷ ‵ (fdies S′.mir m₀) ∷ ‵ (froom (T′.mir erased) l₉ 0) ∷ ‵ (fdies (T′.mir erased) l₉) ∷ ‵ (froom tyBool l₈ 0) ∷ ‵ (fdies tyBool l₈)
           ∷ ‵ (fat fullShare (RD′.mir erased) l₇ 0 (nv (k i))) ∷ ‵ (fdies (RD′.mir erased) l₇) ∷ ‵ (fat fullShare word l₆ 0 (vint w64 (i .0))) ∷ ‵ (fdies word l₆) ∷ ‵ (fat fullShare AC′.mir l₅ 0 (av (n i))) ∷ ‵ (fdies AC′.mir l₅)
           ∷ ‵ (fat fullShare (T′.mir erased) l₄ 0 (rv (k i))) ∷ ‵ (fdies (T′.mir erased) l₄) ∷ Back []) (runs C Λ En (after (after more)) (anyQ (Turned i)))
@@ -329,7 +330,7 @@ module _ {M : Type 1} (𝓤 : URA M) (H : Heap 𝓤) (A : Atoms 𝓤) (W : Given
           land ! (from ! (stop !)) (store ! 12 refl (LL.lawful AC.the-type AC′.the-laws 𝓤 H A W .typed r _ is′ .0)) $ rewrite ! 12 (λ (w : Val). ‵ (fat fullShare AC′.mir l₅ 0 w)) (acc-same r (ac (i .0 + 1)) u (e ∙ gathered-next (now s) b p (i .0)) is′) refl $
           assigns-last ! (bin ! (load ! (from ! (stop !)) (look ! 10 refl)) (lit ! tt) (record { fits = i-fits })) (from ! (stop !)) (store ! 10 refl (tt, record { fits = i-fits })) $
           forget ! 2 refl $ forget ! 8 refl $ rewrite ! 14 (λ (m : ℕ). ‵ (fat fullShare (T′.mir erased) l₄ 0 (rv m))) (stands-next (now s) (i .0)) refl $
-          again ! Nearer At i (i .0 + 1, (add-one-le small, (subst (λ (m : ℕ). m < 2 ^ 64) (stands-next (now s) (i .0)) fits′, acc-fits r (ac (i .0 + 1)) u (e ∙ gathered-next (now s) b p (i .0)) is′))) (add-one-dec 64 (i .0) small)))))
+          again ! Nearer At i (i .0 + 1, (add-one-le small, (subst (λ (m : ℕ). m < 2 ^ 64) (stands-next (now s) (i .0)) fits′, acc-fits r (ac (i .0 + 1)) u (e ∙ gathered-next (now s) b p (i .0)) is′))) (add-one-dec mostMeters (i .0) small)))))
         where
           is-s : Is S.the-row (st (k i)) (sv (k i) ∷ [])
           is-s = LL.owed (RD.the-type α) (RD′.the-laws α) (nextOf (rd (k i))) _ is .1 .0
@@ -353,13 +354,13 @@ module _ {M : Type 1} (𝓤 : URA M) (H : Heap 𝓤) (A : Atoms 𝓤) (W : Given
           split ! $ move ! (1 ∷ []) $ use1 W (raw (fact 𝓤 (r ≡ nextOf (rd (k i))))) (next-said (k i) r) $ heard ! (r ≡ nextOf (rd (k i))) (λ e. split ! $ move ! (1 ∷ []) $
           facts ! (RD.the-row α) (Is (RD.the-row α)) (shows 𝓤 H A (RD.the-row α)) r (u ∷ []) (λ is.
           land ! (from ! (stop !)) (init ! 8 refl (LL.lawful (RD.the-type αᵉ) (RD′.the-laws αᵉ) 𝓤 H A W .typed r _ is .0)) $ rewrite ! 8 (λ (w : Val). ‵ (fat fullShare (RD′.mir erased) l₇ 0 w)) (same (k i) r u e is) refl $
-          forget ! 4 refl $ forget ! 6 refl $ handed i (ltb→lt (i .0) 64 less) (is-next (k i) r u e is))))))
+          forget ! 4 refl $ forget ! 6 refl $ handed i (ltb→lt (i .0) mostMeters less) (is-next (k i) r u e is))))))
           (λ over. jumps ! $ exec ! C Λ En t-5 (atRet En Post) $
           assigns ! (of-opd ! (load ! (from ! (stop !)) (look ! 12 refl))) (from ! (stop !)) (init ! 22 refl (typed-acc (n i) (i .1 .1 .1))) $
           returns ! (look ! 22 refl) $ forget ! 6 refl $ forget ! 10 refl $ forget ! 12 refl $ forget ! 14 refl $ forget ! 16 refl $ forget ! 18 refl $ forget ! 20 refl $ forget ! 22 refl $
           move ! (22 ∷ 23 ∷ []) $ free1 ! $ move ! (20 ∷ 21 ∷ []) $ free1 ! $ move ! (18 ∷ 19 ∷ []) $ free1 ! $ move ! (16 ∷ 17 ∷ []) $ free1 ! $ move ! (14 ∷ 15 ∷ []) $ free1 ! $ move ! (12 ∷ 13 ∷ []) $ free1 ! $ move ! (10 ∷ 11 ∷ []) $ free1 ! $
           move ! (8 ∷ 9 ∷ []) $ free1 ! $ move ! (6 ∷ 7 ∷ []) $ free1 ! $ move ! (4 ∷ 5 ∷ []) $ free1 ! $ move ! (2 ∷ 3 ∷ []) $ free1 ! $ free0 ! $
-          by ! (exits (n i) (ap (gathered (now s) b p) (le-antisymm (i .1 .0) (nltb→le (i .0) 64 over)) ∙ gathered-is (now s) b p) (i .1 .1 .1)))
+          by ! (exits (n i) (ap (gathered (now s) b p) (le-antisymm (i .1 .0) (nltb→le (i .0) mostMeters over)) ∙ gathered-is (now s) b p) (i .1 .1 .1)))
 
       -- the reader is made, and the loop runs
       began : Sq W (Front (‵ (froom word l₆ 0) ∷ ‵ (fdies word l₆) ∷ ‵ (froom AC′.mir l₅ 0) ∷ ‵ (fdies AC′.mir l₅) ∷ ‵ (froom (T′.mir erased) l₄ 0) ∷ ‵ (fdies (T′.mir erased) l₄) ∷ Back (raw Entry ∷ [])))

@@ -55,7 +55,8 @@ use Rattle.bus.specs.View.{plainOf}
 use Rattle.bus.proofs.Segment as S
 use Rattle.bus.proofs.Segment.Laws as S′
 use Rattle.search.specs.SearchCall.{searchCall}
-use Rattle.search.specs.View.{places-are, Finds, answerOf, entryAt, noEntry, searchedOf}
+use Rattle.scenarios.proofs.OpeningLaws.{capacity-is}
+use Rattle.search.specs.View.{CoreFinds, answerOf, recordAt, noEntry, searchedOf}
 use Rattle.search.specs.declared.EntryRecord.{EntryRecord}
 use Rattle.search.specs.declared.Core.{Core}
 use Rattle.search.specs.declared.Searched.{Searched}
@@ -142,7 +143,7 @@ module _ {M : Type 1} (𝓤 : URA M) (H : Heap 𝓤) (A : Atoms 𝓤) (W : Given
   typed-seg = LL.lawful S.the-type S′.the-laws 𝓤 H A W .typed seg _ is-seg .0
 
   abbrev Found : Core → Type 0
-  Found r = Finds seg t w len r
+  Found r = CoreFinds seg t w len r
 
   -- from what is had at exit to the `post` of `walkOf`
   exits : (zs : List EntryRecord) → length zs ≡ len → (r : Searched) (u : Val) → searchedOf r zs ≡ searchCall t w xs (plainOf seg)
@@ -176,7 +177,7 @@ module _ {M : Type 1} (𝓤 : URA M) (H : Heap 𝓤) (A : Atoms 𝓤) (W : Given
       n = d .count
 
       in-array : n ≤ capacity
-      in-array = subst (λ (m : ℕ). n ≤ m) places-are (finds .fits)
+      in-array = subst (λ (m : ℕ). n ≤ m) capacity-is (finds .fits)
 
       abbrev Upto : Type 0
       Upto = (i : ℕ) × (i ≤ n)
@@ -211,7 +212,7 @@ module _ {M : Type 1} (𝓤 : URA M) (H : Heap 𝓤) (A : Atoms 𝓤) (W : Given
             use0 W (raw (EntryAt 𝓤 H A mem run .pre ((tt, tt, tt, (d .entries, (i .0, tt)), (entriesVal d ∷ [], (vint w64 (i .0) ∷ [], tt))), tt))) (asks-entry 𝓤 H A W mem run d dv is-d (i .0) (fits-at i) (small less)) $
             calls-at ! fm (EntryAt 𝓤 H A mem run) known-entry ((tt, tt, tt, (d .entries, (i .0, tt)), (entriesVal d ∷ [], (vint w64 (i .0) ∷ [], tt))), tt) (and-then ! (load ! (from ! (fld ! refl (stop !))) (look-in ! 17 (sub ! 1 refl (whole !)))) (and-then ! (load ! (from ! (stop !)) (look ! 13 refl)) (no-more !))) (λ u.
             use1 W (later (some (λ (r : EntryRecord). (‵ ftrue ⊛ ‵ (T.the-row .own r (u ∷ []))) ⊛ raw (ensured 𝓤 H A entry.ended (entry.clauses 𝓤 H A mem run) tt (d .entries, (i .0, tt)) tt r)))) (id⊢ 𝓤 _) $ await ! tt $ pick ! (λ r.
-            split ! $ move ! (1 ∷ []) $ use1 W (raw (fact 𝓤 (r ≡ entryAt (d .entries) (i .0)))) (entry-said 𝓤 H A W mem run d dv is-d (i .0) r) $ heard ! (r ≡ entryAt (d .entries) (i .0)) (λ e. split ! $ drop ! $
+            split ! $ move ! (1 ∷ []) $ use1 W (raw (fact 𝓤 (r ≡ recordAt (d .entries) (i .0)))) (entry-said 𝓤 H A W mem run d dv is-d (i .0) r) $ heard ! (r ≡ recordAt (d .entries) (i .0)) (λ e. split ! $ drop ! $
             -- [what the entry owns; the row; the open borrow; obs; auth; _12; …]
             peeks ! T.the-row (Is T.the-row) (shows 𝓤 H A T.the-row) r (u ∷ []) (λ is.
             land ! (from ! (stop !)) (init ! 11 refl (LL.lawful T.the-type T′.the-laws 𝓤 H A W .typed r _ is .0)) $

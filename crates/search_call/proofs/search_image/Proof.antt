@@ -2,6 +2,7 @@
 use mathlib.Core.Path.{_≡_, sym, _∙_}
 use native.Mathlib.Omega.{arith}
 use lib.ListN.{length}
+use Rattle.scenarios.specs.Opening.{mostMeters}
 use Rattle.laws.proofs.Sweep.{length-mapped}
 use Rattle.clock.specs.declared.Clock.{Clock}
 use Rattle.search_call.proofs.SearchLaws.{search-refused, search-made}
@@ -14,7 +15,7 @@ clock-of : tie.Start → Clock
 clock-of s = let a = s .args in record { now = a .secs; year = a .year; month = a .month; day = a .day; hour = a .hour; minute = a .minute }
 
 -- how many places the entries have
-long-entries : (c : tie.After-search-core) → length (c .search-core .result .entries) ≡ 64
+long-entries : (c : tie.After-search-core) → length (c .search-core .result .entries) ≡ mostMeters
 long-entries c = search (needs, length-mapped)
 
 read-image-requires : tie.Need-read-image-requires

@@ -5,7 +5,7 @@ use native.Mathlib.Omega.{arith}
 use Rattle.frame.specs.Frame.{Telegram}
 use Rattle.telegram_writer.specs.Writer.{Written, write}
 use Rattle.frame.specs.View.{telegramOf}
-use Rattle.telegram_writer.specs.View.{writtenOf, countOf}
+use Rattle.telegram_writer.specs.View.{writtenOf, writtenCount}
 use Rattle.telegram_calls.proofs.TelegramLaws.{written-most}
 use borrow.Author.Needs.{needs}
 use Rattle.telegram_calls.proofs.encode.Statement.{statement}

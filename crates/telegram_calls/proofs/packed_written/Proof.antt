@@ -2,7 +2,7 @@
 use mathlib.Core.Path.{_≡_, ap, sym, _∙_}
 use Prim.Native.Nat.{_+_, _*_, _<_}
 use native.Mathlib.Omega.{arith}
-use Rattle.telegram_writer.specs.View.{numberOf, countOf}
+use Rattle.telegram_writer.specs.View.{writtenNumber, writtenCount}
 use borrow.Author.Needs.{needs}
 use Rattle.telegram_calls.proofs.packed_written.Statement.{statement}
 use Rattle.telegram_calls.proofs.packed_written.Tie as tie
@@ -11,7 +11,7 @@ enum-known-w : tie.Need-enum-known-w
 enum-known-w c = search needs
 
 cast-result : tie.Need-cast-result
-cast-result c = record { fits = omega (arith, c .before .before .before .pre, ap countOf (c .before .w .given .1)) }
+cast-result c = record { fits = omega (arith, c .before .before .before .pre, ap writtenCount (c .before .w .given .1)) }
 
 enum-told : tie.Need-enum-told
 enum-told c = search needs
@@ -26,13 +26,13 @@ mul-result-2 : tie.Need-mul-result-2
 mul-result-2 c = search needs
 
 returns : tie.Need-returns
-returns c = omega (arith, ap numberOf (c .before .w .given .1), ap countOf (c .before .w .given .1))
+returns c = omega (arith, ap writtenNumber (c .before .w .given .1), ap writtenCount (c .before .w .given .1))
 
 returns-2 : tie.Need-returns-2
-returns-2 c = ap (λ w. numberOf w * 65536 + countOf w) (sym (c .enum-told .given .1))
+returns-2 c = ap (λ w. writtenNumber w * 65536 + writtenCount w) (sym (c .enum-told .given .1))
 
 returns-3 : tie.Need-returns-3
-returns-3 c = ap (λ w. numberOf w * 65536 + countOf w) (sym (c .enum-told2 .given .1))
+returns-3 c = ap (λ w. writtenNumber w * 65536 + writtenCount w) (sym (c .enum-told2 .given .1))
 
 pub packed-written-spec : {M : Type 1} → statement M
 packed-written-spec =

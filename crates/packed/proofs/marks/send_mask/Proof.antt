@@ -4,7 +4,8 @@ use native.Mathlib.Omega.{arith}
 use borrow.Author.Needs.{needs}
 use lib.ListN.{length, getD}
 use Rattle.scenarios.specs.Opening.{capacity}
-use Rattle.packed.specs.Marks.{marked, bitIf, masked, acked}
+use Rattle.laws.specs.Words.{bitIf}
+use Rattle.packed.specs.Marks.{marked, masked, acked}
 use Rattle.packed.proofs.MarkSweep.{Sweep, sweep-none, sweep-more, sweep-all}
 use Rattle.packed.proofs.marks.send_mask.Statement.{statement}
 use Rattle.packed.proofs.marks.send_mask.Tie as tie

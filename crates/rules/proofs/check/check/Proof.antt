@@ -53,11 +53,14 @@ find-fault-requires c κs = search needs
 returns-6 : tie.Need-returns-6
 returns-6 c = gives-fault (listedOf (c .before .before .before .before .before .before .before .before .before .before .before .before .before .before .before .before .before .args .list .now) (c .before .before .before .before .before .before .before .before .before .before .before .before .before .before .before .before .before .args .r)) (record { id = c .before .before .before .before .before .before .before .before .before .before .before .before .before .before .before .text .ensures; manufacturer = c .before .before .before .before .before .before .before .before .before .before .before .before .before .before .text2 .ensures; medium = c .before .before .before .before .before .before .before .before .before .before .before .before .before .text3 .ensures; fault = c .before .before .before .before .before .before .before .before .before .before .before .before .text4 .ensures }) (omega arith) (sym (c .before .before .before .before .before .before .before .before .before .good-id .ensures) ∙ not-false _ (c .before .before .before .before .before .before .before .before .if2 .left)) (sym (c .before .before .before .before .before .before .before .good-manufacturer .ensures) ∙ not-false _ (c .before .before .before .before .before .before .if3 .left)) (c .before .before .before .before .before .find-medium .ensures) (omega arith) (sym (c .before .before .before .good-baud .ensures) ∙ not-false _ (c .before .before .if5 .left)) (c .before .find-fault .ensures) (omega arith)
 
+own-baud-requires : tie.Need-own-baud-requires
+own-baud-requires c κs = search needs
+
 digits-in-requires : tie.Need-digits-in-requires
-digits-in-requires c κs = (omega arith, (sym (c .before .before .before .before .before .before .before .before .before .good-id .ensures) ∙ not-false _ (c .before .before .before .before .before .before .before .before .if2 .left)))
+digits-in-requires c κs = (omega arith, (sym (c .before .before .before .before .before .before .before .before .before .before .good-id .ensures) ∙ not-false _ (c .before .before .before .before .before .before .before .before .before .if2 .left)))
 
 digits-in-requires-2 : tie.Need-digits-in-requires-2
-digits-in-requires-2 c κs = (omega arith, (sym (c .before .before .before .before .before .before .before .before .before .before .good-id .ensures) ∙ not-false _ (c .before .before .before .before .before .before .before .before .before .if2 .left)))
+digits-in-requires-2 c κs = (omega arith, (sym (c .before .before .before .before .before .before .before .before .before .before .before .good-id .ensures) ∙ not-false _ (c .before .before .before .before .before .before .before .before .before .before .if2 .left)))
 
 manufacturer-code-requires : tie.Need-manufacturer-code-requires
 manufacturer-code-requires c κs = search needs
@@ -72,7 +75,7 @@ fault-kind-requires : tie.Need-fault-kind-requires
 fault-kind-requires c κs = search needs
 
 returns-7 : tie.Need-returns-7
-returns-7 c = gives-values (listedOf (c .before .before .before .before .before .before .before .before .before .before .before .before .before .before .before .before .before .before .before .before .before .before .before .args .list .now) (c .before .before .before .before .before .before .before .before .before .before .before .before .before .before .before .before .before .before .before .before .before .before .before .args .r)) (record { id = c .before .before .before .before .before .before .before .before .before .before .before .before .before .before .before .before .before .before .before .before .before .text .ensures; manufacturer = c .before .before .before .before .before .before .before .before .before .before .before .before .before .before .before .before .before .before .before .before .text2 .ensures; medium = c .before .before .before .before .before .before .before .before .before .before .before .before .before .before .before .before .before .before .before .text3 .ensures; fault = c .before .before .before .before .before .before .before .before .before .before .before .before .before .before .before .before .before .before .text4 .ensures }) (omega arith) (sym (c .before .before .before .before .before .before .before .before .before .before .before .before .before .before .before .good-id .ensures) ∙ not-false _ (c .before .before .before .before .before .before .before .before .before .before .before .before .before .before .if2 .left)) (sym (c .before .before .before .before .before .before .before .before .before .before .before .before .before .good-manufacturer .ensures) ∙ not-false _ (c .before .before .before .before .before .before .before .before .before .before .before .before .if3 .left)) (c .before .before .before .before .before .before .before .before .before .before .before .find-medium .ensures) (omega arith) (sym (c .before .before .before .before .before .before .before .before .before .good-baud .ensures) ∙ not-false _ (c .before .before .before .before .before .before .before .before .if5 .left)) (c .before .before .before .before .before .before .before .find-fault .ensures) (omega arith) (c .before .before .before .before .before .digits-in .ensures) (c .before .before .before .before .digits-in2 .ensures) (c .before .before .before .manufacturer-code .ensures) (c .before .before .medium-code .ensures) (c .before .medium-model .ensures) (c .fault-kind .ensures)
+returns-7 c = gives-values (listedOf (c .before .before .before .before .before .before .before .before .before .before .before .before .before .before .before .before .before .before .before .before .before .before .before .before .args .list .now) (c .before .before .before .before .before .before .before .before .before .before .before .before .before .before .before .before .before .before .before .before .before .before .before .before .args .r)) (record { id = c .before .before .before .before .before .before .before .before .before .before .before .before .before .before .before .before .before .before .before .before .before .before .text .ensures; manufacturer = c .before .before .before .before .before .before .before .before .before .before .before .before .before .before .before .before .before .before .before .before .before .text2 .ensures; medium = c .before .before .before .before .before .before .before .before .before .before .before .before .before .before .before .before .before .before .before .before .text3 .ensures; fault = c .before .before .before .before .before .before .before .before .before .before .before .before .before .before .before .before .before .before .before .text4 .ensures }) (omega arith) (sym (c .before .before .before .before .before .before .before .before .before .before .before .before .before .before .before .before .good-id .ensures) ∙ not-false _ (c .before .before .before .before .before .before .before .before .before .before .before .before .before .before .before .if2 .left)) (sym (c .before .before .before .before .before .before .before .before .before .before .before .before .before .before .good-manufacturer .ensures) ∙ not-false _ (c .before .before .before .before .before .before .before .before .before .before .before .before .before .if3 .left)) (c .before .before .before .before .before .before .before .before .before .before .before .before .find-medium .ensures) (omega arith) (sym (c .before .before .before .before .before .before .before .before .before .before .good-baud .ensures) ∙ not-false _ (c .before .before .before .before .before .before .before .before .before .if5 .left)) (c .before .before .before .before .before .before .before .before .find-fault .ensures) (omega arith) (c .before .before .before .before .before .before .own-baud .ensures) (c .before .before .before .before .before .digits-in .ensures) (c .before .before .before .before .digits-in2 .ensures) (c .before .before .before .manufacturer-code .ensures) (c .before .before .medium-code .ensures) (c .before .medium-model .ensures) (c .fault-kind .ensures)
 
 pub check-spec : {M : Type 1} → statement M
 check-spec =
@@ -93,6 +96,7 @@ check-spec =
     returns-5
     find-fault-requires
     returns-6
+    own-baud-requires
     digits-in-requires
     digits-in-requires-2
     manufacturer-code-requires

@@ -5,13 +5,13 @@ use native.Mathlib.Omega.{arith}
 use borrow.Author.Needs.{needs}
 use lib.ListN.{length, take, drop}
 use Rattle.scenarios.specs.Opening.{capacity}
-use Rattle.search.specs.Packing.{idOf, packed}
+use Rattle.search.specs.Packing.{keyOf, packed}
 use Rattle.search.proofs.PackLaws.{Mapped, mapped-none, mapped-more, mapped-all}
 use Rattle.search.proofs.pack.keys_of.Statement.{statement}
 use Rattle.search.proofs.pack.keys_of.Tie as tie
 
 abbrev Inv-loop : tie.InvT-loop
-Inv-loop count meters keys₀ end i₀ keys i = (i ≤ end) × (end ≤ capacity) × (length meters ≡ capacity) × (length keys₀ ≡ capacity) × Mapped idOf keys₀ meters i keys
+Inv-loop count meters keys₀ end i₀ keys i = (i ≤ end) × (end ≤ capacity) × (length meters ≡ capacity) × (length keys₀ ≡ capacity) × Mapped keyOf keys₀ meters i keys
 
 abbrev μ-loop : tie.MeasureT-loop
 μ-loop count meters keys₀ end i₀ keys i = end - i
@@ -53,7 +53,7 @@ returns : tie.Need-returns Inv-loop μ-loop
 unfolding packed
 returns c =
     let l = c .before in
-    mapped-all (l .loop .inv .4) (min (l .before .before .before .args .count) capacity) (omega arith) ∙ ap (λ d. take (min (l .before .before .before .args .count) capacity) (map idOf (l .before .before .before .args .t1)) ++ drop (min (l .before .before .before .args .count) capacity) d) (l .before .before .zeros .ensures)
+    mapped-all (l .loop .inv .4) (min (l .before .before .before .args .count) capacity) (omega arith) ∙ ap (λ d. take (min (l .before .before .before .args .count) capacity) (map keyOf (l .before .before .before .args .t1)) ++ drop (min (l .before .before .before .args .count) capacity) d) (l .before .before .zeros .ensures)
 
 pub keys-of-spec : {M : Type 1} → statement M
 keys-of-spec =

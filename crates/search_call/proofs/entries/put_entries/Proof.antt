@@ -6,6 +6,7 @@ use native.Mathlib.Omega.{arith}
 use lib.ListN.{length, take, drop}
 use lib.Seq.{length-paste}
 use borrow.Author.Needs.{needs}
+use Rattle.scenarios.specs.Opening.{mostMeters}
 use Rattle.laws.proofs.Sweep.{length-mapped}
 use Rattle.search_call.specs.Searches.{rows}
 use Rattle.search_call.proofs.SearchLaws.{Rows, rows-begin, rows-more}
@@ -13,7 +14,7 @@ use Rattle.search_call.proofs.entries.put_entries.Statement.{statement}
 use Rattle.search_call.proofs.entries.put_entries.Tie as tie
 
 abbrev Inv-loop : tie.InvT-loop
-Inv-loop count lent₀ found i₀ lent i = (i ≤ count) × (count ≤ 64) × (16 * count ≤ length lent₀) × (length lent ≡ length lent₀) × (length found ≡ 64) × Rows found lent₀ i lent
+Inv-loop count lent₀ found i₀ lent i = (i ≤ count) × (count ≤ mostMeters) × (16 * count ≤ length lent₀) × (length lent ≡ length lent₀) × (length found ≡ mostMeters) × Rows found lent₀ i lent
 
 abbrev μ-loop : tie.MeasureT-loop
 μ-loop count lent₀ found i₀ lent i = count - i

@@ -5,6 +5,7 @@ use Prim.Native.Nat.{ℕ}
 use Rattle.values.specs.Values.{little}
 use Rattle.search_call.proofs.SearchLaws.{three-blocks}
 use borrow.Author.Needs.{needs}
+use native.Mathlib.Omega.{arith}
 use Rattle.search_call.proofs.entries.summary_of.Statement.{statement}
 use Rattle.search_call.proofs.entries.summary_of.Tie as tie
 
@@ -14,47 +15,50 @@ le4-requires c κs = search needs
 le4-requires-2 : tie.Need-le4-requires-2
 le4-requires-2 c κs = search needs
 
-flag-number-requires : tie.Need-flag-number-requires
-flag-number-requires c κs = search needs
+bit-requires : tie.Need-bit-requires
+bit-requires c κs = search needs
+
+cast-le4 : tie.Need-cast-le4
+cast-le4 c = omega (arith, c .bit .ensures .1)
 
 le4-requires-3 : tie.Need-le4-requires-3
 le4-requires-3 c κs = search needs
 
-array-read-t11 : tie.Need-array-read-t11
-array-read-t11 c = search needs
+array-read-t12 : tie.Need-array-read-t12
+array-read-t12 c = search needs
 
-array-read-t14 : tie.Need-array-read-t14
-array-read-t14 c = search needs
+array-read-t15 : tie.Need-array-read-t15
+array-read-t15 c = search needs
 
-array-read-t17 : tie.Need-array-read-t17
-array-read-t17 c = search needs
+array-read-t18 : tie.Need-array-read-t18
+array-read-t18 c = search needs
 
-array-read-t20 : tie.Need-array-read-t20
-array-read-t20 c = search needs
+array-read-t21 : tie.Need-array-read-t21
+array-read-t21 c = search needs
 
-array-read-t23 : tie.Need-array-read-t23
-array-read-t23 c = search needs
+array-read-t24 : tie.Need-array-read-t24
+array-read-t24 c = search needs
 
-array-read-t26 : tie.Need-array-read-t26
-array-read-t26 c = search needs
+array-read-t27 : tie.Need-array-read-t27
+array-read-t27 c = search needs
 
-array-read-t29 : tie.Need-array-read-t29
-array-read-t29 c = search needs
+array-read-t30 : tie.Need-array-read-t30
+array-read-t30 c = search needs
 
-array-read-t32 : tie.Need-array-read-t32
-array-read-t32 c = search needs
+array-read-t33 : tie.Need-array-read-t33
+array-read-t33 c = search needs
 
-array-read-t35 : tie.Need-array-read-t35
-array-read-t35 c = search needs
+array-read-t36 : tie.Need-array-read-t36
+array-read-t36 c = search needs
 
-array-read-t38 : tie.Need-array-read-t38
-array-read-t38 c = search needs
+array-read-t39 : tie.Need-array-read-t39
+array-read-t39 c = search needs
 
-array-read-t41 : tie.Need-array-read-t41
-array-read-t41 c = search needs
+array-read-t42 : tie.Need-array-read-t42
+array-read-t42 c = search needs
 
-array-read-t44 : tie.Need-array-read-t44
-array-read-t44 c = search needs
+array-read-t45 : tie.Need-array-read-t45
+array-read-t45 c = search needs
 
 returns : tie.Need-returns
 returns c =
@@ -65,7 +69,7 @@ returns c =
     three-blocks (n .le4 .result) (p .le42 .result) (c .le43 .result) (search needs) (search needs) (search needs)
     ∙ ap (λ (x : List ℕ). x ++ p .le42 .result ++ c .le43 .result) (n .le4 .ensures)
     ∙ ap (λ (x : List ℕ). little 4 (a .count) ++ x ++ c .le43 .result) (p .le42 .ensures)
-    ∙ ap (λ (x : List ℕ). little 4 (a .count) ++ little 4 (a .probes) ++ x) (c .le43 .ensures ∙ ap (little 4) (f .flag-number .ensures))
+    ∙ ap (λ (x : List ℕ). little 4 (a .count) ++ little 4 (a .probes) ++ x) (c .le43 .ensures ∙ ap (little 4) (f .bit .ensures .0))
 
 pub summary-of-spec : {M : Type 1} → statement M
 summary-of-spec =
@@ -73,18 +77,19 @@ summary-of-spec =
     (tie.spec
     le4-requires
     le4-requires-2
-    flag-number-requires
+    bit-requires
+    cast-le4
     le4-requires-3
-    array-read-t11
-    array-read-t14
-    array-read-t17
-    array-read-t20
-    array-read-t23
-    array-read-t26
-    array-read-t29
-    array-read-t32
-    array-read-t35
-    array-read-t38
-    array-read-t41
-    array-read-t44
+    array-read-t12
+    array-read-t15
+    array-read-t18
+    array-read-t21
+    array-read-t24
+    array-read-t27
+    array-read-t30
+    array-read-t33
+    array-read-t36
+    array-read-t39
+    array-read-t42
+    array-read-t45
     returns)
