@@ -3,6 +3,7 @@ use mathlib.Core.Path.{_≡_, refl}
 use Prim.Native.Nat.{ℕ, _+_, _*_, _/_, _%_, _<_}
 use native.Mathlib.Omega.{arith}
 use lib.ListN.{length}
+use Rattle.laws.proofs.Lists.{byte-below}
 use Rattle.laws.specs.Words.{Every}
 use Rattle.dates.specs.Dates.{typeG, typeF}
 
@@ -13,9 +14,6 @@ length-typeG year month day = refl
 pub length-typeF : (year month day hour minute : ℕ) → length (typeF year month day hour minute) ≡ 4
 unfolding typeF typeG
 length-typeF year month day hour minute = refl
-
-byte-below : (v : ℕ) → v % 256 < 256
-byte-below v = omega arith
 
 pub typeG-bytes : (year month day : ℕ) → Every (λ b. b < 256) (typeG year month day)
 unfolding typeG

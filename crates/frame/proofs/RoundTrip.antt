@@ -9,6 +9,7 @@ use borrow.Author.Tests.{le-ltb, lt-ltb, eq-eqb, ne-eqb, eqb-true, eqb-false, lt
 use lib.ListN.{length, take, drop, getD, length-append}
 use native.Mathlib.Numerals.{add-one}
 use lib.Seq.{take-append-seam, getD-append-seam, getD-append-add, take-at, take-add, drop-cons, length-take-le}
+use Rattle.laws.proofs.Lists.{and-l, and-r}
 use Rattle.laws.specs.Words.{if_then_else_, at}
 use Rattle.frame.specs.Frame.{Telegram, ack, short, long, Why, checksum, stop, header, badLength, start, Parsed, complete, incomplete, invalid, sum, parseShort, parseBody, parseLong, parse, encode}
 
@@ -94,10 +95,6 @@ fails-past′ : (b : Bool) (w : Why) (x : Parsed) (t : Telegram) (n : ℕ) → (
 fails-past′ true w x t n e = let z : _≡_ {A = ℕ} 0 1 = cc in absurd (omega arith)
 fails-past′ false w x t n e = (refl, e)
 
-and-true : (a b : Bool) → a && b ≡ true → (a ≡ true) × (b ≡ true)
-and-true true b e = (refl, e)
-and-true false b e = let z : _≡_ {A = ℕ} 0 1 = cc in absurd (omega arith)
-
 abbrev Back : List ℕ → Telegram → ℕ → Type 0
 Back bs t n = (take n bs ≡ encode t) × (n ≤ length bs)
 
@@ -156,16 +153,17 @@ long-back : (b : ℕ) (xs : List ℕ) (t : Telegram) (n : ℕ) → b ≡ 0x68 �
 unfolding parseLong parseBody
 long-back b xs t n h e =
     let p = waits-past (ltb (length (b ∷ xs)) 4) _ t n e in
-    let q = fails-past (eqb (at (b ∷ xs) 2) (at (b ∷ xs) 1) && eqb (at (b ∷ xs) 3) 0x68) header _ t n (p .1) in
+    let twice = eqb (at (b ∷ xs) 2) (at (b ∷ xs) 1) in
+    let again = eqb (at (b ∷ xs) 3) 0x68 in
+    let q = fails-past (twice && again) header _ t n (p .1) in
     let r = fails-past′ (ltb (at (b ∷ xs) 1) 3) badLength _ t n (q .1) in
     let u = waits-past (ltb (length (b ∷ xs)) (at (b ∷ xs) 1 + 6)) _ t n (r .1) in
     let v = fails-past (eqb (at (b ∷ xs) (4 + at (b ∷ xs) 1)) (sum (take (at (b ∷ xs) 1) (drop 4 (b ∷ xs))))) checksum _ t n (u .1) in
     let w = fails-past (eqb (at (b ∷ xs) (5 + at (b ∷ xs) 1)) 0x16) stop _ t n (v .1) in
-    let both = and-true _ _ (q .0) in
     let l = at (b ∷ xs) 1 in
     let k : l + 6 ≤ length (b ∷ xs) = ltb-false _ _ (u .0) in
     same-back (b ∷ xs) (long (at (b ∷ xs) 4) (at (b ∷ xs) 5) (at (b ∷ xs) 6) (take (l - 3) (drop 7 (b ∷ xs)))) t (l + 6) n (w .1)
-    (long-list b xs l h refl (eqb-true _ _ (both .0)) (eqb-true _ _ (both .1)) (ltb-false _ _ (r .0)) k (eqb-true _ _ (v .0)) (eqb-true _ _ (w .0)), k)
+    (long-list b xs l h refl (eqb-true _ _ (and-l twice again (q .0))) (eqb-true _ _ (and-r twice again (q .0))) (ltb-false _ _ (r .0)) k (eqb-true _ _ (v .0)) (eqb-true _ _ (w .0)), k)
 
 pub parse-back : (bs : List ℕ) (t : Telegram) (n : ℕ) → parse bs ≡ complete t n → (take n bs ≡ encode t) × (n ≤ length bs)
 unfolding parse encode

@@ -25,9 +25,6 @@ use Rattle.rules.specs.declared.Failing.the-variants.{BadPrimary, BadId, BadMan
 use Rattle.bus.specs.Plain.{Plain, withInput}
 use Rattle.bus.specs.Calls as calls
 use Rattle.bus.specs.Calls.{Done, afterOpening}
-use Rattle.send.specs.Steps.{settled}
-use Rattle.send.specs.Send.{send}
-use Rattle.clock.specs.Fields.{goodClock}
 use Rattle.image.specs.Image.{imaged}
 use Rattle.jezynar.specs.Answers.{doneBy, receivedBy, DoneImage}
 
@@ -35,13 +32,6 @@ use Rattle.jezynar.specs.Answers.{doneBy, receivedBy, DoneImage}
 
 abbrev Stays : Plain → Done → Type 0
 Stays s d = 0 < d .number → d .segment ≡ s
-
-pub send-stays : (piece : List ℕ) (k : Clock) (s : Plain) → Stays s (send piece k s)
-unfolding send
-send-stays piece k s =
-    if-all (Stays s) (ltb 1024 (length piece)) _ _ (λ h. refl)
-    (if-all (Stays s) (not (goodClock k)) _ _ (λ h. refl)
-    (if-all (Stays s) (ltb 4096 (length (settled k (withInput (s .input ++ piece) s) .queue))) _ _ (λ h. refl) (λ h. absurd (omega (arith, h)))))
 
 pub baud-stays : (b : ℕ) (s : Plain) → Stays s (calls.changeBaud b s)
 unfolding calls.changeBaud

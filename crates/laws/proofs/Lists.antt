@@ -2,9 +2,10 @@
 use mathlib.Core.Path.{_≡_, refl, sym, ap, ap₂, _∙_}
 use mathlib.Core.Bool.{Bool, true, false, cond, _&&_}
 use mathlib.Core.List.{List, [], _∷_, _++_, map}
-use Prim.Native.Nat.{ℕ, zero, suc, _+_, _≤_, _<_, zero-le}
+use Prim.Native.Nat.{ℕ, zero, suc, _+_, _-_, _%_, _≤_, _<_, zero-le}
 use native.Mathlib.Omega.{arith}
-use lib.ListN.{length}
+use lib.ListN.{length, take, drop, set, getD, length-drop}
+use lib.Seq.{take-all}
 use Rattle.laws.specs.Words.{if_then_else_, keep, Every}
 
 -- whichever way a test goes
@@ -121,3 +122,35 @@ and-r false b e = let z : _≡_ {A = ℕ} 0 1 = cc in absurd (omega arith)
 
 pub and-both : (a b : Bool) → a ≡ true → b ≡ true → a && b ≡ true
 and-both a b p q = rw (p, q)
+
+module _ {A B : Type 0} (f : A → B) where
+  pub map-set : (xs : List A) (i : ℕ) (v : A) → map f (set xs i v) ≡ set (map f xs) i (f v)
+  map-set [] i v = refl
+  map-set (x ∷ xs) zero v = refl
+  map-set (x ∷ xs) (suc i) v = ap (λ (r : List B). f x ∷ r) (map-set xs i v)
+
+  pub map-take : (n : ℕ) (xs : List A) → map f (take n xs) ≡ take n (map f xs)
+  map-take zero xs = refl
+  map-take (suc n) [] = refl
+  map-take (suc n) (x ∷ xs) = ap (λ (r : List B). f x ∷ r) (map-take n xs)
+
+-- the last of a list, as a part of it
+pub take-rest : (xs : List ℕ) (n : ℕ) → take (length xs - n) (drop n xs) ≡ drop n xs
+take-rest xs n = take-all (length xs - n) (drop n xs) (omega (arith, length-drop n xs))
+
+-- ---- bytes
+
+pub byte-below : (v : ℕ) → v % 256 < 256
+byte-below v = omega arith
+
+-- a list by its elements
+pub two-of : (v : List ℕ) → length v ≡ 2 → getD v 0 0 ∷ getD v 1 0 ∷ [] ≡ v
+two-of [] e = absurd (omega arith)
+two-of (a ∷ []) e = absurd (omega arith)
+two-of (a ∷ b ∷ []) e = refl
+two-of (a ∷ b ∷ c ∷ v) e = absurd (omega arith)
+
+pub four-of : (v : List ℕ) → length v ≡ 4 → getD v 0 0 ∷ getD v 1 0 ∷ getD v 2 0 ∷ getD v 3 0 ∷ [] ≡ v
+four-of [] e = absurd (omega arith)
+four-of (a ∷ []) e = absurd (omega arith)
+four-of (a ∷ b ∷ v) e = ap (λ l. a ∷ b ∷ l) (two-of v (omega arith))

@@ -13,10 +13,6 @@ use Rattle.matching.specs.Matching.{alike}
 abbrev pub two : ℕ → ℕ → Bool
 two b v = alike (b / 16 ∷ b % 16 ∷ []) (v / 16 ∷ v % 16 ∷ [])
 
-pub and-true : (b : Bool) → b ≡ (b && true)
-and-true true = refl
-and-true false = refl
-
 alike-two : (a b x y : ℕ) (ds xs : List ℕ) → alike (a ∷ b ∷ ds) (x ∷ y ∷ xs) ≡ (alike (a ∷ b ∷ []) (x ∷ y ∷ []) && alike ds xs)
 unfolding alike
 alike-two a b x y ds xs = go (eqb a 0xF || eqb a x) (eqb b 0xF || eqb b y) (alike ds xs)

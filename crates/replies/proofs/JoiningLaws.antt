@@ -1,6 +1,6 @@
 -- What the program keeps of the replies: none yet, one more, and that all come to `joined`.
 use mathlib.Core.Path.{_≡_, refl, sym, ap, ap₂, _∙_, subst}
-use mathlib.Core.Bool.{Bool, true, false, _&&_}
+use mathlib.Core.Bool.{Bool, true, false, _&&_, and-true}
 use mathlib.Core.List.{List, [], _∷_, _++_, append-nil}
 use Prim.Native.Nat.{ℕ, zero, suc, _+_, _%_, _^_, _<_, min, max}
 use native.Mathlib.Omega.{arith}
@@ -128,10 +128,6 @@ module _ {rs : List (List ℕ)} {j : Joining} {bytes : List ℕ} where
   joined-is s = joined-as rs (s .small) ∙ rw (s .acks, s .count, sym (places-kept rs j bytes s))
 
 -- one E5 more
-and-true : (a : Bool) → a && true ≡ a
-and-true true = refl
-and-true false = refl
-
 small-none : (n i : ℕ) → getD (replicate n 0) i 0 < 256
 small-none zero i = omega arith
 small-none (suc n) zero = omega arith

@@ -122,10 +122,6 @@ spelling-done {n} {i} {rest} {ds} p h =
     ∙ ap (λ (m : ℕ). inDecimal m rest (drop m ds)) (sym e)
     ∙ p .is
 
--- the last of a list, as a part of it
-pub part-last : (ds : List ℕ) (k : ℕ) → take (length ds - k) (drop k ds) ≡ drop k ds
-part-last ds k = take-all (length ds - k) (drop k ds) (rw length-drop (omega arith))
-
 -- ---- the lines
 
 lines-more : (es : List EntryRecord) (i : ℕ) (d : EntryRecord) → i < length es → lines (take (suc i) es) ≡ lines (take i es) ++ line (getD es i d)

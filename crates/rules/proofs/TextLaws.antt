@@ -1,6 +1,6 @@
 -- Texts compared byte by byte, and looked up among keys: the loops' invariants, their turns and their ends.
 use mathlib.Core.Path.{_≡_, refl, sym, ap, ap₂, _∙_}
-use mathlib.Core.Bool.{Bool, true, false, _&&_, _||_}
+use mathlib.Core.Bool.{Bool, true, false, _&&_, _||_, and-false}
 use mathlib.Core.List.{List, [], _∷_}
 use Prim.Native.Nat.{ℕ, suc, _+_, _-_, _≤_, _<_, min}
 use native.Mathlib.Nat.{min-eq-left, min-eq-right}
@@ -35,10 +35,6 @@ text-is s start len x y p q = go (leb start (length s)) refl
         ap (take (x + y - x)) (drop-of-length-le s m) ∙ take-nil (x + y - x) ∙ sym (ap (take len) (drop-of-length-le s l) ∙ take-nil len)
 
 -- ---- the same text
-
-pub and-false : (b : Bool) → b && false ≡ false
-and-false true = refl
-and-false false = refl
 
 pub differs : (a b : List ℕ) → (length b ≡ length a → ⊥) → false ≡ sameList a b
 differs [] [] h = absurd (h refl)

@@ -7,7 +7,7 @@ use native.Mathlib.Omega.{arith}
 use lib.ListN.{length, take, drop, length-take, length-map}
 use Rattle.laws.specs.Words.{Every}
 use Rattle.laws.proofs.Copy.{take-min}
-use Rattle.laws.proofs.Lists.{every-image, every-all}
+use Rattle.laws.proofs.Lists.{every-image, every-all, map-take}
 use Rattle.meter.specs.PlainMeter.{PlainMeter}
 use Rattle.meter.specs.View.{plainMeter}
 use Rattle.meter.specs.declared.Meter.{Meter}
@@ -32,7 +32,6 @@ use Rattle.search.specs.SearchCall.{recordOf, searchGave}
 use Rattle.search.specs.Packing.{keyOf, markOf, packed, Bounded, seenBy, recordIn}
 use Rattle.search.specs.View.{outcomeNumber, coreGives, metersHeld, packedRun, Walks}
 use Rattle.search.proofs.KeyDigits.{digits-eight}
-use Rattle.search.proofs.PackLaws.{map-take}
 use Rattle.search.proofs.PackStart.{packed-hold, packed-seen, swept-seen}
 use Rattle.search.proofs.PackedProbe.{seenAll}
 use Rattle.search.proofs.PackedWalk.{whole-same}
@@ -139,10 +138,10 @@ module _ (s : Segment) (k : Clock) (allowance : ℕ) (r : Core) (gc : goodClock 
     where
       swept : map plainMeter (take (metersHeld s) (r .segment .meters)) ≡ seenAll (s .baud) (meters s (x .all)) (t .marks)
       swept =
-          sym (map-take plainMeter (metersHeld s) (r .segment .meters))
+          map-take plainMeter (metersHeld s) (r .segment .meters)
           ∙ ap (take (metersHeld s)) (x .meters)
           ∙ swept-seen (s .baud) (metersHeld s) (t .marks) (map plainMeter (s .meters)) (omega (arith, x .marks, x .all, length-map (s .meters) plainMeter))
-          ∙ ap (λ ms. seenAll (s .baud) ms (t .marks)) (map-take plainMeter (metersHeld s) (s .meters))
+          ∙ ap (λ ms. seenAll (s .baud) ms (t .marks)) (sym (map-take plainMeter (metersHeld s) (s .meters)))
 
       left : map plainMeter (take (s .count) (r .segment .meters)) ≡ seenAll (s .baud) (meters s (x .all)) (t .marks)
       left = ap (map plainMeter) (sym (ap (λ l. take (min (s .count) l) (r .segment .meters)) (sym whole) ∙ take-min (s .count) (r .segment .meters))) ∙ swept

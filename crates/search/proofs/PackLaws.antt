@@ -7,6 +7,7 @@ use native.Mathlib.Numerals.{add-one}
 use native.Mathlib.Omega.{arith}
 use borrow.Author.Tests.{eq-eqb, ne-eqb}
 use lib.ListN.{length, take, drop, set, getD, List·getD-map, length-map}
+use Rattle.laws.proofs.Lists.{map-set, map-take}
 use Rattle.laws.specs.Words.{Every, bitIf}
 use Rattle.laws.proofs.Copy.{Copied, copied-none, copied-more, copied-first, copied-front}
 use Rattle.meter.specs.PlainMeter.{PlainMeter}
@@ -30,19 +31,6 @@ several zero h k = absurd (h refl)
 several (suc zero) h k = absurd (k refl)
 several (suc (suc n)) h k = refl
 
--- ---- lists
-
-module _ {A B : Type 0} (f : A → B) where
-  pub map-take : (n : ℕ) (xs : List A) → take n (map f xs) ≡ map f (take n xs)
-  map-take zero xs = refl
-  map-take (suc n) [] = refl
-  map-take (suc n) (x ∷ xs) = ap (λ (r : List B). f x ∷ r) (map-take n xs)
-
-  pub map-set : (xs : List A) (i : ℕ) (v : A) → map f (set xs i v) ≡ set (map f xs) i (f v)
-  map-set [] i v = refl
-  map-set (x ∷ xs) zero v = refl
-  map-set (x ∷ xs) (suc i) v = ap (λ (r : List B). f x ∷ r) (map-set xs i v)
-
 -- ---- loops
 
 -- f of the first i elements of xs stands over d
@@ -64,7 +52,7 @@ module _ {A B : Type 0} {f : A → B} {d : List B} {xs : List A} where
     pub mapped-first : (n : ℕ) → i ≡ n → i ≤ length xs → take n l ≡ map f (take n xs)
     mapped-first n e h =
         let g : n ≡ 0 + i = omega arith in
-        ap (λ (j : ℕ). take j l) g ∙ copied-first (c .copied) (omega arith) (omega (arith, length-map xs f)) ∙ ap (λ (j : ℕ). take j (map f xs)) e ∙ map-take f n xs
+        ap (λ (j : ℕ). take j l) g ∙ copied-first (c .copied) (omega arith) (omega (arith, length-map xs f)) ∙ ap (λ (j : ℕ). take j (map f xs)) e ∙ sym (map-take f n xs)
 
 module _ {A : Type 0} (P : A → Type 0) where
   pub every-more : (xs : List A) (i : ℕ) (z : A) → i < length xs → Every P (take i xs) → P (getD xs i z) → Every P (take (i + 1) xs)

@@ -9,11 +9,10 @@ use lib.Dec.{eqb, ltb}
 use lib.ListN.{length, take, drop, getD, replicate, length-append, length-replicate}
 use lib.Seq.{paste, take-at, take-suc, drop-drop, drop-append-add, length-take-le}
 use Rattle.scenarios.specs.Opening.{mostMeters}
-use Rattle.laws.proofs.Lists.{if-all}
+use Rattle.laws.proofs.Lists.{if-all, four-of}
 use Rattle.laws.specs.Words.{at}
 use Rattle.values.specs.Values.{little}
 use Rattle.clock.specs.declared.Clock.{Clock}
-use Rattle.userdata.proofs.RecordLaws.{four-of}
 use Rattle.bus.specs.Plain.{Plain}
 use Rattle.clock.specs.Fields.{goodClock}
 use Rattle.bus.specs.View.{plainOf}

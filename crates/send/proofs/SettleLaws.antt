@@ -104,9 +104,6 @@ module _ {k : Clock} {bytes : List ℕ} {t₀ : Segment} where
 
 -- ---- what parsing said of the bytes from pos on
 
-pub rest-is : (bytes : List ℕ) (pos : ℕ) → take (length bytes - pos) (drop pos bytes) ≡ drop pos bytes
-rest-is bytes pos = take-all (length bytes - pos) (drop pos bytes) (omega (arith, length-drop pos bytes))
-
 module _ {rest bs : List ℕ} {o : Outcome} (r : rest ≡ bs) (e : parsedOf rest o ≡ parse rest) where
   pub parsed-complete : {frame : Frame} {len used : ℕ} {d : List ℕ} → o ≡ Complete frame len used → d ≡ dataAt rest len → parse bs ≡ complete (telegramOf frame d) used
   parsed-complete {frame} {len} {used} {d} is f = ap parse (sym r) ∙ sym e ∙ ap (parsedOf rest) is ∙ ap (λ x. complete (telegramOf frame x) used) (sym f)

@@ -9,7 +9,7 @@ use lib.ListN.{length, take, set, getD, replicate, length-map, length-take, List
 use lib.Seq.{take-suc}
 use Rattle.laws.specs.Sweep.{swept}
 use Rattle.laws.proofs.Copy.{take-min}
-use Rattle.laws.proofs.Lists.{map-map}
+use Rattle.laws.proofs.Lists.{map-map, map-set, map-take}
 use Rattle.laws.proofs.Sweep.{getD-swept, set-swept, swept-min, take-swept}
 use Rattle.meter.specs.declared.Meter.{Meter}
 use Rattle.meter.specs.PlainMeter.{PlainMeter}
@@ -29,16 +29,6 @@ use Rattle.send.proofs.RepliesLaws.{replies-append, replies-few}
 -- ---- lists
 
 module _ {A B : Type 0} (f : A → B) where
-  pub map-set : (xs : List A) (i : ℕ) (v : A) → map f (set xs i v) ≡ set (map f xs) i (f v)
-  map-set [] i v = refl
-  map-set (x ∷ xs) zero v = refl
-  map-set (x ∷ xs) (suc i) v = ap (λ r. f x ∷ r) (map-set xs i v)
-
-  pub map-take : (n : ℕ) (xs : List A) → map f (take n xs) ≡ take n (map f xs)
-  map-take zero xs = refl
-  map-take (suc n) [] = refl
-  map-take (suc n) (x ∷ xs) = ap (λ r. f x ∷ r) (map-take n xs)
-
   map-append : (xs ys : List A) → map f (xs ++ ys) ≡ map f xs ++ map f ys
   map-append [] ys = refl
   map-append (x ∷ xs) ys = ap (λ r. f x ∷ r) (map-append xs ys)

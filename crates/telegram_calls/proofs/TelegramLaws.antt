@@ -6,21 +6,13 @@ use native.Mathlib.Omega.{arith}
 use lib.Dec.{ltb}
 use lib.ListN.{length, getD, length-append}
 use borrow.Author.Tests.{ltb-false}
-use Rattle.laws.proofs.Lists.{if-all, if-with}
+use Rattle.laws.proofs.Lists.{if-all, if-with, four-of}
 use Rattle.frame.specs.Frame.{Telegram, ack, short, long, encode, dataOf}
 use Rattle.telegram_writer.specs.Writer.{Written, write}
 
 -- the four elements of a list
 abbrev four : List ℕ → List ℕ
 four l = getD l 0 0 ∷ getD l 1 0 ∷ getD l 2 0 ∷ getD l 3 0 ∷ []
-
-four-of : (l : List ℕ) → length l ≡ 4 → four l ≡ l
-four-of [] h = absurd (omega (arith, h))
-four-of (a ∷ []) h = absurd (omega (arith, h))
-four-of (a ∷ b ∷ []) h = absurd (omega (arith, h))
-four-of (a ∷ b ∷ c ∷ []) h = absurd (omega (arith, h))
-four-of (a ∷ b ∷ c ∷ d ∷ []) h = refl
-four-of (a ∷ b ∷ c ∷ d ∷ e ∷ l) h = absurd (omega (arith, h))
 
 -- three blocks of four bytes, and what lies behind them
 pub blocks-before : (a b c : List ℕ) → length a ≡ 4 → length b ≡ 4 → length c ≡ 4 → (z : List ℕ) → four a ++ four b ++ four c ++ z ≡ a ++ b ++ c ++ z

@@ -6,6 +6,7 @@ use native.Mathlib.Numerals.{add-one}
 use native.Mathlib.Omega.{arith}
 use lib.ListN.{length, take, set, getD, length-append}
 use lib.Seq.{take-suc-set, take-all, take-at, length-take-le}
+use Rattle.laws.proofs.Lists.{four-of}
 use Rattle.userdata.specs.declared.Data.{Data}
 use Rattle.userdata.specs.Made.{cut, Put}
 use Rattle.userdata.specs.View.{held}
@@ -41,18 +42,7 @@ pub fits : {d r : Data} {hs bs : List ℕ} → held d ≡ hs → Put d bs r → 
 unfolding cut
 fits {d} {r} {hs} {bs} e p h = p .bytes ∙ ap (λ l. take 87 (l ++ bs)) e ∙ take-all 87 (hs ++ bs) h
 
--- a list by its elements
-pub two-of : (v : List ℕ) → length v ≡ 2 → getD v 0 0 ∷ getD v 1 0 ∷ [] ≡ v
-two-of [] e = absurd (omega arith)
-two-of (a ∷ []) e = absurd (omega arith)
-two-of (a ∷ b ∷ []) e = refl
-two-of (a ∷ b ∷ c ∷ v) e = absurd (omega arith)
-
-pub four-of : (v : List ℕ) → length v ≡ 4 → getD v 0 0 ∷ getD v 1 0 ∷ getD v 2 0 ∷ getD v 3 0 ∷ [] ≡ v
-four-of [] e = absurd (omega arith)
-four-of (a ∷ []) e = absurd (omega arith)
-four-of (a ∷ b ∷ v) e = ap (λ l. a ∷ b ∷ l) (two-of v (omega arith))
-
+-- a list of six by its elements
 pub six-of : (v : List ℕ) → length v ≡ 6 → getD v 0 0 ∷ getD v 1 0 ∷ getD v 2 0 ∷ getD v 3 0 ∷ getD v 4 0 ∷ getD v 5 0 ∷ [] ≡ v
 six-of [] e = absurd (omega arith)
 six-of (a ∷ []) e = absurd (omega arith)

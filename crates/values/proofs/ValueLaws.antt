@@ -6,6 +6,7 @@ use native.Mathlib.Nat.{pow-suc, one-le-pow}
 use native.Mathlib.Omega.{arith}
 use lib.Arith.{mod-mul}
 use lib.ListN.{length}
+use Rattle.laws.proofs.Lists.{byte-below}
 use Rattle.laws.specs.Words.{Every}
 use Rattle.values.specs.Values.{little, bcd}
 
@@ -22,9 +23,6 @@ length-bcd zero v = refl
 length-bcd (suc n) v = ap suc (length-bcd n (v / 100))
 
 -- ---- each is a byte
-
-byte-below : (v : ℕ) → v % 256 < 256
-byte-below v = omega arith
 
 pub little-bytes : (n v : ℕ) → Every (λ b. b < 256) (little n v)
 unfolding little

@@ -1,6 +1,6 @@
 -- 1 + 10 * D is bounded by the number of meters.
 use mathlib.Core.Path.{_≡_, refl, sym, ap, _∙_, fun-ext}
-use mathlib.Core.Bool.{Bool, true, false, _&&_}
+use mathlib.Core.Bool.{Bool, true, false, _&&_, and-true}
 use mathlib.Core.List.{List, [], _∷_, _++_}
 use Prim.Native.Nat.{ℕ, zero, suc, _+_, _*_, _/_, _^_, _≤_, _<_, min, zero-le}
 use native.Mathlib.Omega.{arith}
@@ -39,10 +39,6 @@ digit-le i (suc n) x = go (eqb i x) refl (digit-le (suc i) n x)
     go false e h = omega arith
 
 -- ---- the ten prefixes with one digit more have no more meters than the prefix itself
-
-pub and-true : (b : Bool) → b && true ≡ b
-and-true true = refl
-and-true false = refl
 
 split-one : (p id : List ℕ) → total ten (λ d. bit (begins (p ++ d ∷ []) id)) ≤ bit (begins p id)
 split-one [] [] = omega (arith, total-zero ten)

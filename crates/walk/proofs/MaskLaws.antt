@@ -1,6 +1,6 @@
 -- A mask matches exactly the ids that begin with its prefix.
 use mathlib.Core.Path.{_≡_, refl, ap, _∙_}
-use mathlib.Core.Bool.{true, _&&_}
+use mathlib.Core.Bool.{true, _&&_, and-true}
 use mathlib.Core.List.{List, [], _∷_, _++_}
 use Prim.Native.Nat.{ℕ, zero, suc, _+_, _-_, _≤_, _<_}
 use native.Mathlib.Omega.{arith}
@@ -17,7 +17,6 @@ use Rattle.matching.specs.Matching.{alike, matches}
 use Rattle.walk.specs.Walk.{maskDigits, mask}
 use Rattle.walk.specs.Entries.{begins}
 use Rattle.walk.proofs.Model.{Digits, Prefix}
-use Rattle.walk.proofs.Bound.{and-true}
 
 pub digits-small : (ds : List ℕ) → Digits ds → Every (λ d. d < 16) ds
 digits-small [] h = tt

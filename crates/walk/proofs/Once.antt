@@ -1,7 +1,7 @@
 -- Each meter is in exactly one entry.
 use mathlib.Core.Path.{_≡_, refl, sym, ap, ap₂, _∙_}
 use mathlib.Core.Logic.{_⊎_, inl, inr}
-use mathlib.Core.Bool.{Bool, true, false, cond, _&&_, true≢false, false≢true}
+use mathlib.Core.Bool.{Bool, true, false, cond, _&&_, true≢false, false≢true, and-true}
 use mathlib.Core.List.{List, [], _∷_, _++_, List·Memᴰ, List·Memᴰ·head, List·Memᴰ·tail, List·Memᴰ·not-nil, List·Memᴰ·cases-cons, List·Memᴰ·eq-of-singleton}
 use Prim.Native.Nat.{ℕ, zero, suc, _+_, _-_, _≤_, _<_, zero-le}
 use native.Mathlib.Omega.{arith}
@@ -16,7 +16,7 @@ use Rattle.walk.specs.Entries.{readingFails, loneEntry, having, begins, 
 use Rattle.walk.proofs.Model.{Digits, Prefix, no-digit, ten-digits, prefix-longer}
 use Rattle.walk.proofs.Sums.{total, total-zero, total-each, count, count-total, count-cons, bit}
 use Rattle.walk.proofs.Cut.{traced, trace, all}
-use Rattle.walk.proofs.Bound.{range, ten-range, miss, and-true}
+use Rattle.walk.proofs.Bound.{range, ten-range, miss}
 use Rattle.walk.proofs.Limit.{full}
 use Rattle.walk.proofs.MaskLaws.{alike-mask}
 

@@ -1,6 +1,6 @@
 -- A probe and a reading of a segment at rest where no meter at bus baud is flaky: who answers, what is read, and what of the meters stays.
 use mathlib.Core.Path.{_≡_, refl, sym, ap, ap₂, _∙_, subst}
-use mathlib.Core.Bool.{Bool, true, false, _&&_, not, false≢true}
+use mathlib.Core.Bool.{Bool, true, false, _&&_, not, false≢true, and-true}
 use mathlib.Core.List.{List, [], _∷_, map, nil≢cons, cons≢nil, head-eq-of-cons-eq, tail-eq-of-cons-eq}
 use Prim.Native.Nat.{ℕ, _≤_}
 use native.Mathlib.Omega.{arith}
@@ -25,7 +25,6 @@ use Rattle.walk.specs.Walk.{Entry, mask, reading, probe, read, entryOf}
 use Rattle.walk.specs.Entries.{atBus, begins, having, loneEntry}
 use Rattle.walk.proofs.Model.{Prefix}
 use Rattle.walk.proofs.Seen.{IdDigits, known, seenOf, seenIn}
-use Rattle.walk.proofs.Bound.{and-true}
 use Rattle.walk.proofs.MaskLaws.{maskData, mask-matches}
 use Rattle.walk.proofs.Faithful.{Agree, apart}
 use Rattle.walk.proofs.ReadingLaws.{readout-entry}

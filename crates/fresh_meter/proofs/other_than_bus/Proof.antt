@@ -1,7 +1,7 @@
 -- `fresh_meter::other_than_bus` meets its contract. Assumes nothing.
 use borrow.Author.Tests.{eq-eqb, ne-eqb}
+use mathlib.Core.Bool.{and-false}
 use Rattle.fresh_meter.specs.Fresh.{otherThanBus}
-use Rattle.rules.proofs.TextLaws.{and-false}
 use Rattle.fresh_meter.proofs.other_than_bus.Statement.{statement}
 use Rattle.fresh_meter.proofs.other_than_bus.Tie as tie
 

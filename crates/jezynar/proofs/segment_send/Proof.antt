@@ -1,11 +1,12 @@
 -- `jezynar::segment_send` meets its contract. Assumes nothing.
 use mathlib.Core.Path.{ap, sym, _∙_}
 use native.Mathlib.Omega.{arith}
+use Rattle.send.proofs.Slips.{refused-stays}
 use Rattle.clock.specs.declared.Clock.{Clock}
 use Rattle.bus.specs.View.{plainOf}
 use Rattle.send.specs.Send.{send}
 use Rattle.send.specs.View.{sentOf}
-use Rattle.jezynar.proofs.ImageLaws.{send-stays, refused-call, accepted-call}
+use Rattle.jezynar.proofs.ImageLaws.{refused-call, accepted-call}
 use borrow.Author.Needs.{needs}
 use Rattle.jezynar.proofs.segment_send.Statement.{statement}
 use Rattle.jezynar.proofs.segment_send.Tie as tie
@@ -32,7 +33,7 @@ returns c =
     let s = i .before .before .before in
     let a = s .args in
     refused-call (send (a .piece .now) (clock-of s)) (a .image .now) (plainOf (i .read-image .result)) (sentOf (d .send .result)) (i .read-image .ensures) (d .send .ensures)
-    (send-stays (a .piece .now) (clock-of s)) (n .sending-number .result) (n .sending-number .ensures) (omega (arith, c .if1 .taken))
+    (refused-stays (a .piece .now) (clock-of s)) (n .sending-number .result) (n .sending-number .ensures) (omega (arith, c .if1 .taken))
 
 write-image-requires : tie.Need-write-image-requires
 write-image-requires c κs = search needs

@@ -1,6 +1,6 @@
 use mathlib.Core.Path.{sym, _∙_}
+use mathlib.Core.Bool.{and-true}
 use Rattle.matching.specs.Matching.{alike}
-use Rattle.matching.proofs.MatchLaws.{and-true}
 use Rattle.matching.proofs.digits_fit.Statement.{statement}
 use Rattle.matching.proofs.digits_fit.Tie as tie
 
@@ -15,7 +15,7 @@ fits-requires-2 c κs = tt
 
 returns : tie.Need-returns
 unfolding alike
-returns c = rw (sym (c .before .before .before .wide .ensures), sym (c .before .before .fits2 .ensures) ∙ c .before .if1 .taken) (c .fits3 .ensures ∙ and-true _)
+returns c = rw (sym (c .before .before .before .wide .ensures), sym (c .before .before .fits2 .ensures) ∙ c .before .if1 .taken) (c .fits3 .ensures ∙ sym (and-true _))
 
 returns-2 : tie.Need-returns-2
 unfolding alike

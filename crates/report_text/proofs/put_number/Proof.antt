@@ -2,7 +2,8 @@ use mathlib.Core.Path.{_∙_, ap}
 use native.Mathlib.Omega.{arith}
 use lib.ListN.{length, length-drop}
 use borrow.Author.Needs.{needs}
-use Rattle.report_text.proofs.TextLaws.{wrote-as, part-last}
+use Rattle.laws.proofs.Lists.{take-rest}
+use Rattle.report_text.proofs.TextLaws.{wrote-as}
 use Rattle.report_text.proofs.put_number.Statement.{statement}
 use Rattle.report_text.proofs.put_number.Tie as tie
 
@@ -28,7 +29,7 @@ returns : tie.Need-returns
 returns c =
     let t = c .before .before .before .before .before .spell in
     let ds = t .result .digits in
-    let e = part-last ds (t .result .from) in
+    let e = take-rest ds (t .result .from) in
     (wrote-as (e ∙ t .ensures .0) (c .put .ensures), omega (arith, c .put .ensures .end, ap length e, length-drop (t .result .from) ds, t .ensures))
 
 pub put-number-spec : {M : Type 1} → statement M

@@ -7,6 +7,7 @@ use borrow.Author.Needs.{needs}
 use borrow.Author.Tests.{not-true, not-false}
 use denote.Ref.{now}
 use lib.ListN.{length, take, drop, length-drop, length-set}
+use Rattle.laws.proofs.Lists.{take-rest}
 use Rattle.laws.proofs.Sweep.{length-mapped}
 use Rattle.frame.specs.Frame.{complete, incomplete, parse}
 use Rattle.frame.specs.View.{telegramOf, whyOf}
@@ -18,7 +19,7 @@ use Rattle.seconds.specs.Seconds.{elapsedOf}
 use Rattle.replies.proofs.JoiningLaws.{small-all}
 use Rattle.send.proofs.HandleLaws.{handled-all, handled-full, handled-fits}
 use Rattle.send.proofs.SendLaws.{bytes-drop}
-use Rattle.send.proofs.SettleLaws.{Left, left-none, left-more, left-full, left-waits, left-drops, rest-is, parsed-complete, parsed-incomplete, parsed-invalid, used-within}
+use Rattle.send.proofs.SettleLaws.{Left, left-none, left-more, left-full, left-waits, left-drops, parsed-complete, parsed-incomplete, parsed-invalid, used-within}
 use Rattle.send.proofs.SweepLaws.{Swept, Sweeping, sweeping-none, sweeping-few, sweeping-more, sweeping-past, sweeping-all}
 use Rattle.send.proofs.settle.settle.Statement.{statement}
 use Rattle.send.proofs.settle.settle.Tie as tie
@@ -66,7 +67,7 @@ whole c =
     let f = c .before .before in
     let p = f .before .before in
     let at = p .before .before in
-    parsed-complete (rest-is (at .before .before .args .bytes .now) (at .loop .pos)) (p .parse .ensures .tells) (f .frame .given .1) (c .data-of .ensures)
+    parsed-complete (take-rest (at .before .before .args .bytes .now) (at .loop .pos)) (p .parse .ensures .tells) (f .frame .given .1) (c .data-of .ensures)
 
 elapsed-requires : tie.Need-elapsed-requires Inv-loop2 μ-loop2 Inv-loop μ-loop
 elapsed-requires c κs = tt
@@ -253,7 +254,7 @@ part : (c : tie.After-enum-told Inv-loop2 μ-loop2 Inv-loop μ-loop)
 part c =
     let p = c .before .before in
     let at = p .before .before in
-    parsed-incomplete (rest-is (at .before .before .args .bytes .now) (at .loop .pos)) (p .parse .ensures .tells) (c .enum-told .given .1)
+    parsed-incomplete (take-rest (at .before .before .args .bytes .now) (at .loop .pos)) (p .parse .ensures .tells) (c .enum-told .given .1)
 
 keep-requires : tie.Need-keep-requires Inv-loop2 μ-loop2 Inv-loop μ-loop
 keep-requires c κs =
@@ -261,14 +262,14 @@ keep-requires c κs =
     let bytes = at .before .before .args .bytes .now in
     let small = small-all bytes (λ i. at .before .shared-slice-known .given i .fits) in
     let s = waiting-short (drop (at .loop .pos) bytes) (bytes-drop (at .loop .pos) bytes small) (part (c .before)) in
-    (omega (arith, s, ap length (rest-is bytes (at .loop .pos))), at .loop .inv .2)
+    (omega (arith, s, ap length (take-rest bytes (at .loop .pos))), at .loop .inv .2)
 
 returns-2 : tie.Need-returns-2 Inv-loop2 μ-loop2 Inv-loop μ-loop
 returns-2 c =
     let e = c .before .before in
     let at = e .before .before .before .before in
     let bytes = at .before .before .args .bytes .now in
-    let r = rest-is bytes (at .loop .pos) in
+    let r = take-rest bytes (at .loop .pos) in
     let new = c .keep .last .0 in
     left-waits (at .loop .inv .4) (at .loop .inv .3) new _ (part e) (ap length r) (ap (λ x. take (length x) new) (sym r) ∙ c .keep .ensures ∙ r)
 
@@ -279,7 +280,7 @@ returns-3 : tie.Need-returns-3 Inv-loop2 μ-loop2 Inv-loop μ-loop
 returns-3 c =
     let p = c .before .before in
     let at = p .before .before in
-    left-drops (at .loop .inv .4) (at .loop .inv .3) (whyOf (c .enum-told2 .given .0 .0)) (parsed-invalid (rest-is (at .before .before .args .bytes .now) (at .loop .pos)) (p .parse .ensures .tells) (c .enum-told2 .given .1))
+    left-drops (at .loop .inv .4) (at .loop .inv .3) (whyOf (c .enum-told2 .given .0 .0)) (parsed-invalid (take-rest (at .before .before .args .bytes .now) (at .loop .pos)) (p .parse .ensures .tells) (c .enum-told2 .given .1))
 
 pub settle-spec : {M : Type 1} → statement M
 settle-spec =

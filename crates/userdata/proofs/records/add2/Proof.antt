@@ -1,7 +1,8 @@
 use borrow.Author.Needs.{needs}
 use mathlib.Core.Path.{_≡_}
 use lib.ListN.{length}
-use Rattle.userdata.proofs.RecordLaws.{both, put-as, two-of}
+use Rattle.laws.proofs.Lists.{two-of}
+use Rattle.userdata.proofs.RecordLaws.{both, put-as}
 use Rattle.userdata.proofs.records.add2.Statement.{statement}
 use Rattle.userdata.proofs.records.add2.Tie as tie
 

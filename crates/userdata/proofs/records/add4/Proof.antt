@@ -1,7 +1,8 @@
 use borrow.Author.Needs.{needs}
 use mathlib.Core.Path.{_≡_}
 use lib.ListN.{length}
-use Rattle.userdata.proofs.RecordLaws.{both, put-as, four-of}
+use Rattle.laws.proofs.Lists.{four-of}
+use Rattle.userdata.proofs.RecordLaws.{both, put-as}
 use Rattle.userdata.proofs.records.add4.Statement.{statement}
 use Rattle.userdata.proofs.records.add4.Tie as tie
 
