@@ -1,16 +1,17 @@
 /* The simulated M-Bus segment: the entry points of the static library.
  *
  * A segment is an image, JEZYNAR_IMAGE bytes that the caller keeps between the calls. Any bytes are an image.
- * A slice crosses as a pointer and its length; an array as a pointer to exactly that many bytes. Lent memory that is
- * written must not overlap the image or other memory of the same call. An empty slice may have any pointer.
+ * The library has no state of its own, and a thread with 128 KiB of stack is enough for every call.
+ * A slice crosses as a pointer and its length; an array as a pointer to exactly that many bytes. The image, and lent
+ * memory that is written, overlap no other memory of the same call. An empty slice may have any pointer.
  *
  * A call that can be refused answers 0, or the number of its refusal. A refused call leaves every byte of the image and
- * of the lent memory. No call is undefined for any value of its arguments.
+ * of the lent memory. Every value of the numbers and bytes of a call is taken.
  *
  * The clock of a send or a search: secs, the seconds of the instant; year 1970..9999, month 1..12, day 1..31,
  * hour 0..23, minute 0..59.
  *
- * Numbers in lent bytes are little-endian.
+ * Numbers in what a call writes are little-endian.
  */
 #ifndef JEZYNAR_H
 #define JEZYNAR_H
@@ -35,6 +36,13 @@ size_t segment_image_len(void);
 void segment_new(uint8_t image[JEZYNAR_IMAGE]);
 
 /* Opens the segment of a list of meters at a bus baud, with the practice flag and the origin of its time.
+ * The list: the byte 01; in two bytes, the high one first, how many bytes follow; a record for each meter, at most 64.
+ * A record: one byte, the length of its rest; primary (at most 250); version (any byte); own baud in four bytes, the
+ * high one first (0: the bus's at opening); four texts, each after a byte with its length: id (eight digits),
+ * manufacturer (three capital letters; or none for heat_old), medium, fault.
+ *   rates  300 600 1200 2400 4800 9600 19200 38400
+ *   media  heat cooling water cold_water warm_water gas electricity heat_old
+ *   faults none checksum truncated busy wrong_address flaky too_many
  * Accepted: 0, and the segment is built anew. Refused: number + 256 * index, and the former segment stays in use.
  *   1 list under 3 bytes, or its version is not 1     6 a manufacturer
  *   2 a length does not fit                           7 a medium

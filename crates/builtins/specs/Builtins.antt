@@ -1,5 +1,5 @@
 -- The built-in lists praxis, ok10, mfh30 and bauds: "kept as constant bytes in the list layout, records in the Rust's order, without names".
--- First byte 0 and the count, then one record a line: its length; primary; version; own baud; id, manufacturer, medium, fault, each after its length.
+-- First the version 01 and the count, then one record a line: its length; primary; version; own baud; id, manufacturer, medium, fault, each after its length.
 use mathlib.Core.List.{List, [], _∷_}
 use Prim.Native.Nat.{ℕ}
 

@@ -1,12 +1,7 @@
 -- The clock's fields (01, "Send, select, receive"), and when a call takes them.
 use mathlib.Core.Bool.{Bool, _&&_}
-use Prim.Native.Nat.{ℕ}
-use lib.Dec.{leb}
+use Rattle.laws.specs.Words.{within}
 use Rattle.clock.specs.declared.Clock.{Clock}
-
--- from low to high, both ends included
-abbrev pub within : ℕ → ℕ → ℕ → Bool
-within low high x = leb low x && leb x high
 
 -- the clock: year 1970..9999, month 1..12, day 1..31, hour 0..23, minute 0..59
 unfoldable pub goodClock : Clock → Bool

@@ -1,6 +1,7 @@
 // The clock that a call is given.
 ghost use mathlib.Core.Path.{_≡_};
-ghost use Rattle.clock.specs.Fields.{within, goodClock};
+ghost use Rattle.laws.specs.Words.{within};
+ghost use Rattle.clock.specs.Fields.{goodClock};
 
 // Seconds, and the date and time of day that meters write.
 pub struct Clock {

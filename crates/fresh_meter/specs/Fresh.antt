@@ -20,8 +20,11 @@ unfoldable pub ownBaud : ℕ → Bool → ℕ → ℕ
 ownBaud bus practice own = if eqb own 0 then bus else otherThanBus bus practice own
 
 -- "Without the flag, seed = (id as a decimal number mod 997) × 53; with it, seed 0"
+abbrev pub seedFrom : Bool → (id : ℕ) → ℕ
+seedFrom practice id = if practice then 0 else id % 997 * 53
+
 unfoldable pub seedOf : Bool → List ℕ → ℕ
-seedOf practice digits = if practice then 0 else decimal digits % 997 * 53
+seedOf practice digits = seedFrom practice (decimal digits)
 
 -- "A fresh meter: access 0, not selected, part 0, no last FCB, readouts 0, and a flaky one misses its first telegram."
 unfoldable pub fresh : ℕ → Bool → Listed → PlainMeter

@@ -1,22 +1,17 @@
 -- The program's fresh meter, by the values of a record that passes.
 use mathlib.Core.Bool.{Bool, false}
-use Prim.Native.Nat.{ℕ, _*_, _%_}
-use Rattle.laws.specs.Words.{if_then_else_}
+use Prim.Native.Nat.{ℕ}
 use Rattle.meter.specs.declared.LastFcb.the-variants.{Never}
 use Rattle.meter.specs.declared.Meter.{Meter}
 use Rattle.rules.specs.declared.OwnBaud.{OwnBaud}
 use Rattle.rules.specs.declared.OwnBaud.the-variants.{AsBus, Own}
 use Rattle.rules.specs.declared.Values.{Values}
-use Rattle.fresh_meter.specs.Fresh.{otherThanBus}
+use Rattle.fresh_meter.specs.Fresh.{otherThanBus, seedFrom}
 
 -- the baud of a fresh meter, by its record's own
 abbrev pub baudFrom : ℕ → Bool → OwnBaud → ℕ
 baudFrom bus practice AsBus = bus
 baudFrom bus practice (Own own) = otherThanBus bus practice own
-
--- the seed of an id's decimal number
-abbrev pub seedFrom : Bool → ℕ → ℕ
-seedFrom practice n = if practice then 0 else n % 997 * 53
 
 -- the program's fresh meter
 unfoldable pub freshOf : ℕ → Bool → Values → Meter

@@ -1,7 +1,7 @@
 // The meter that an opening begins with for a record.
 ghost use mathlib.Core.Path.{_≡_};
-ghost use Rattle.fresh_meter.specs.Fresh.{otherThanBus};
-ghost use Rattle.fresh_meter.specs.FreshOf.{baudFrom, seedFrom, freshOf};
+ghost use Rattle.fresh_meter.specs.Fresh.{otherThanBus, seedFrom};
+ghost use Rattle.fresh_meter.specs.FreshOf.{baudFrom, freshOf};
 use meter::LastFcb;
 use meter::Meter;
 use rules::OwnBaud;

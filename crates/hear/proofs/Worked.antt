@@ -1,4 +1,4 @@
--- Examples: the paper's own, and a reply of each model, whose bytes are those that the Rust sends.
+-- Examples: those of 01, and a reply of each model, whose bytes are those that the Rust sends.
 use mathlib.Core.Path.{_≡_, refl}
 use mathlib.Core.Bool.{Bool, false}
 use mathlib.Core.List.{[], _∷_}
@@ -24,7 +24,7 @@ use Rattle.readout.specs.Response.{userData, response, damaged, readout}
 use Rattle.userdata.specs.UserData.{fixedData, head, clockF, heatFirst, heatSecond, electricity, water}
 use Rattle.hear.specs.Hear.{Reply, says, target, request, listens, hear}
 
--- ---- the paper's table
+-- ---- the table of 01
 
 -- (e) busy at 11: 68 04 04 68 08 0B 70 08 8B 16, whatever else the meter is and whenever it is asked
 pub worked-e : (elapsed : Float) (k : Clock) (m : PlainMeter) → m .fault ≡ Busy → m .primary ≡ 11

@@ -8,8 +8,8 @@ use Rattle.frame.specs.Frame.{Telegram, ack, short, long}
 use Rattle.matching.specs.Matching.{idMatches}
 use Rattle.hear.specs.Hear.{isSelect, reaches}
 
--- whether a telegram can do anything to a meter with this primary address, selection and id: a select to a selected meter and to one
--- whose id it matches, any other to its target
+-- whether a telegram may do anything to a meter with this primary address, selection and id: a select to a selected meter and to one
+-- whose id it matches, any other to its target. Where this is false it does nothing
 unfoldable pub concerns : Telegram → (primary : ℕ) → (selected : Bool) → (digits : List ℕ) → Bool
 concerns ack primary selected digits = false
 concerns (short c a) primary selected digits = reaches a primary selected

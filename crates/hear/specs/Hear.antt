@@ -51,7 +51,7 @@ fcbOf c = not (eqb (bitAnd c 0x20) 0)
 abbrev pub isSndUd : ℕ → Bool
 isSndUd c = eqb (bitAnd c 0xCF) 0x43
 
--- "Select (C masked with CF is 43, CI 52, address FD)"
+-- "Select (C masked with CF is 43, CI 52, address FD)": a SND_UD with this CI and address
 abbrev pub isSelect : ℕ → ℕ → Bool
 isSelect ci a = eqb ci 0x52 && eqb a 0xFD
 

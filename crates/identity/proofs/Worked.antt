@@ -1,4 +1,4 @@
--- What `Identity.antt` says, held to the paper's examples. Assumes nothing.
+-- What `Identity.antt` says, held to the examples of 01. Assumes nothing.
 use mathlib.Core.Path.{_≡_, refl}
 use mathlib.Core.List.{[], _∷_}
 use Rattle.identity.specs.Identity.{makerCode, idBytes, digitsOf}

@@ -46,7 +46,7 @@ fn read_meters(bs: &[u8], count: usize) -> [Meter; METERS]
     ms
 }
 
-// The first count meters; the bytes of the others stay as they are.
+// The first count meters.
 fn write_meters(ms: [Meter; METERS], count: usize, bs: &mut [u8])
     requires { ⌜ (length (now bs) ≡ 25 * capacity) × (count ≤ capacity) ⌝ }
     ensures { λ _. ⌜ meters count (now (bs .exit)) ≡ map plainMeter (take count ms) ⌝ }
@@ -163,7 +163,7 @@ fn write_parts(s: Segment, bs: &mut [u8])
     write_meters(meters, count, &mut bs[4374..]);
 }
 
-// Bytes that have no part in the segment's meaning stay as they are.
+// The image means the segment. Which bytes those have that have no part in its meaning is not said.
 pub fn write_image(s: Segment, image: &mut [u8; IMAGE])
     ensures { λ _. ⌜ imaged (now (image .exit)) ≡ plainOf s ⌝ }
 {

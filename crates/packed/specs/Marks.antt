@@ -4,15 +4,11 @@
 use mathlib.Core.Bool.{Bool, true, false, _&&_, _||_}
 use mathlib.Core.List.{List, [], _∷_}
 use Prim.Native.Nat.{ℕ, zero, suc, _+_, _-_, _*_, _/_, _%_}
-use lib.Dec.{leb, ltb, eqb}
+use lib.Dec.{ltb, eqb}
 use lib.Bits.{bitAnd, bitOr, bitXor}
-use Rattle.laws.specs.Words.{if_then_else_, bitIf}
+use Rattle.laws.specs.Words.{if_then_else_, bitIf, within}
 
--- the ids of a mask
-abbrev pub inside : ℕ → ℕ → ℕ → Bool
-inside low high key = leb low key && leb key high
-
--- put: 1 where a telegram is put to the meter; 1 where the meter then answers
+-- 1 where the meter with the mark s answers a telegram; put is 1 where the telegram is put to it
 unfoldable pub yesOf : ℕ → ℕ → ℕ
 yesOf s put = bitAnd (bitOr (s / 16 % 2) (s / 4 % 2)) put
 
@@ -36,7 +32,7 @@ readMark s =
 
 -- by key and mark: the mark after the mask low..high, and after a reading
 unfoldable pub masked : ℕ → ℕ → ℕ → ℕ → ℕ
-masked low high key s = marked s (bitIf (inside low high key))
+masked low high key s = marked s (bitIf (within low high key))
 
 unfoldable pub readBy : ℕ → ℕ → ℕ
 readBy key s = readMark s

@@ -4,14 +4,15 @@
 ghost use mathlib.Core.Path.{_≡_};
 ghost use Prim.Native.Nat.{ℕ, _≤_};
 ghost use lib.ListN.{length};
+ghost use Rattle.laws.specs.Words.{within};
 ghost use Rattle.scenarios.specs.Opening.{capacity};
-ghost use Rattle.packed.specs.Marks.{inside, yesOf, hearsOf, marked, masked, acked, readoutsIn, readMark, readKey, readBy, sweptBy, foldBy};
+ghost use Rattle.packed.specs.Marks.{yesOf, hearsOf, marked, masked, acked, readoutsIn, readMark, readKey, readBy, sweptBy, foldBy};
 use laws::bit;
 use scenarios::METERS;
 
 // A mask's ids are those from its lowest to its highest.
 fn within(key: u32, low: u32, high: u32) -> bool
-    ensures { λ r. ⌜ r ≡ inside low high key ⌝ }
+    ensures { λ r. ⌜ r ≡ within low high key ⌝ }
 {
     (low <= key) & (key <= high)
 }

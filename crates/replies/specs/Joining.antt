@@ -10,7 +10,7 @@ use Rattle.readout.specs.declared.Reply.{Reply}
 use Rattle.replies.specs.declared.Joining.{Joining}
 use Rattle.replies.specs.Replies.{isE5, allE5, longest, overlaid}
 
--- the longest reply
+-- the places of the array that a reply stands in; the longest reply has 84 bytes
 abbrev pub replyMost : ℕ
 replyMost = 96
 

@@ -11,8 +11,8 @@ use Rattle.laws.proofs.Lists.{and-r}
 use Rattle.meter.specs.PlainMeter.{PlainMeter}
 use Rattle.walk.specs.Entries.{begins}
 use Rattle.walk.proofs.Model.{Prefix}
-use Rattle.laws.specs.Words.{bitIf}
-use Rattle.packed.specs.Marks.{inside, marked, masked, acked, sweptBy, foldBy}
+use Rattle.laws.specs.Words.{bitIf, within}
+use Rattle.packed.specs.Marks.{marked, masked, acked, sweptBy, foldBy}
 use Rattle.packed.specs.Packed.{spanOf}
 use Rattle.search.specs.Packing.{on}
 use Rattle.search.proofs.MarkLaws.{heard, marked-selected, marked-fresh, marked-clear}
@@ -39,7 +39,7 @@ unfolding masked
 one-odd bus p u w l m key s h odd = go (eqb (m .baud) bus) refl
   where
     b : Bool
-    b = inside (lowOf p u) (lowOf p u + spanOf u) key
+    b = within (lowOf p u) (lowOf p u + spanOf u) key
 
     t : ℕ
     t = marked s (bitIf b)

@@ -8,7 +8,7 @@ use native.Mathlib.Omega.{arith}
 use lib.Dec.{eqb}
 use lib.Ieee.{Float}
 use lib.ListN.{length}
-use Rattle.laws.specs.Words.{if_then_else_, keep, Every, bitIf}
+use Rattle.laws.specs.Words.{if_then_else_, keep, Every, bitIf, within}
 use Rattle.identity.specs.Identity.{digitsOf}
 use Rattle.meter.specs.PlainMeter.{PlainMeter}
 use Rattle.clock.specs.declared.Clock.{Clock}
@@ -24,7 +24,7 @@ use Rattle.walk.specs.Entries.{begins}
 use Rattle.walk.proofs.Model.{Prefix}
 use Rattle.walk.proofs.MaskLaws.{maskData, mask-is, mask-matches}
 use Rattle.walk.proofs.ProbeLaws.{secs, called, probedM, probe-rest}
-use Rattle.packed.specs.Marks.{inside, marked, masked, acked, sweptBy, foldBy}
+use Rattle.packed.specs.Marks.{marked, masked, acked, sweptBy, foldBy}
 use Rattle.packed.specs.Packed.{spanOf}
 use Rattle.search.specs.Packing.{on, asMarked, seenAs}
 use Rattle.search.proofs.MarkLaws.{marked-odd, marked-kind, Bits, bits-kept, Silent, silent-marked, select-marked, acknowledged-meter}
@@ -78,10 +78,10 @@ masked-keeps low high =
       meter = λ bus m key s h. record {
         small = h .small;
         digits = h .digits;
-        bits = λ e. bits-kept (m .fault) s (masked low high key s) (ap (λ x. x % 16) (marked-kind s (inside low high key))) (h .bits e);
-        away = λ e. silent-marked s (inside low high key) (h .away e);
+        bits = λ e. bits-kept (m .fault) s (masked low high key s) (ap (λ x. x % 16) (marked-kind s (within low high key))) (h .bits e);
+        away = λ e. silent-marked s (within low high key) (h .away e);
       };
-      none = λ key s q. silent-marked s (inside low high key) q;
+      none = λ key s q. silent-marked s (within low high key) q;
     }
 
 -- ---- one meter
@@ -119,7 +119,7 @@ module _ (k : Clock) (bus : ℕ) (o : Float) (p : List ℕ) (u : ℕ) (w : Prefi
   high = lowOf p u + spanOf u
 
   module _ (m : PlainMeter) (key s : ℕ) (h : Holds bus m key s) where
-    in-mask : inside low high key ≡ begins p (m .digits)
+    in-mask : within low high key ≡ begins p (m .digits)
     in-mask = inside-begins p u key w l (h .small) ∙ ap (begins p) (sym (h .digits))
 
     eight-digits : length (m .digits) ≡ 8
@@ -137,7 +137,7 @@ module _ (k : Clock) (bus : ℕ) (o : Float) (p : List ℕ) (u : ℕ) (w : Prefi
 
         go : (b : Bool) → eqb (m .baud) bus ≡ b
             → (if eqb ((if b then asMarked m s else m) .baud) bus then select d (if b then asMarked m s else m) else quiet (if b then asMarked m s else m)) .meter
-            ≡ (if b then asMarked m (marked s (bitIf (inside low high key))) else m)
+            ≡ (if b then asMarked m (marked s (bitIf (within low high key))) else m)
         go true e =
             ap (λ x. (if x then select d (asMarked m s) else quiet (asMarked m s)) .meter) e
             ∙ ap (λ (t : Heard). t .meter) (select-marked d m s (h .bits e))
@@ -148,7 +148,7 @@ module _ (k : Clock) (bus : ℕ) (o : Float) (p : List ℕ) (u : ℕ) (w : Prefi
     -- it acknowledges exactly if its new mark is odd
     one-called : masked low high key s % 2 ≡ bitIf (called k bus o p (seenAs bus m s))
     unfolding masked seenAs asMarked
-    one-called = marked-odd s (inside low high key) ∙ ap bitIf (ap (λ b. (on (s / 16 % 2) || on (s / 4 % 2)) && b) in-mask ∙ sym (go (eqb (m .baud) bus) refl))
+    one-called = marked-odd s (within low high key) ∙ ap bitIf (ap (λ b. (on (s / 16 % 2) || on (s / 4 % 2)) && b) in-mask ∙ sym (go (eqb (m .baud) bus) refl))
       where
         go : (b : Bool) → eqb (m .baud) bus ≡ b → called k bus o p (seenAs bus m s) ≡ ((on (s / 16 % 2) || on (s / 4 % 2)) && begins p (m .digits))
         go true e =
@@ -178,7 +178,7 @@ module _ (k : Clock) (bus : ℕ) (o : Float) (p : List ℕ) (u : ℕ) (w : Prefi
   none-called (suc n) a (key ∷ ks) [] q = refl
   none-called (suc n) a (key ∷ ks) (s ∷ ss) q =
       none-called n (a + masked low high key s % 2) ks ss (q .1)
-      ∙ omega (arith, marked-odd s (inside low high key) ∙ ap bitIf (ap₂ (λ x y. (x || y) && inside low high key) (q .0 .steady) (q .0 .deaf)))
+      ∙ omega (arith, marked-odd s (within low high key) ∙ ap bitIf (ap₂ (λ x y. (x || y) && within low high key) (q .0 .steady) (q .0 .deaf)))
 
   all-called : (n a : ℕ) (ms : List PlainMeter) (ks ss : List ℕ) → length ms ≤ n → AllHold bus ms ks ss
       → foldBy (acked low high) a n ks ss ≡ a + length (keep (called k bus o p) (seenAll bus ms ss))

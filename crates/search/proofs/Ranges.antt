@@ -7,12 +7,12 @@ use native.Mathlib.Omega.{arith}
 use lib.Dec.{eqb, leb}
 use borrow.Author.Tests.{le-leb, lt-leb, eqb-true, eqb-false, leb-true, leb-false}
 use lib.ListN.{length, replicate, length-append, length-replicate}
+use Rattle.laws.specs.Words.{within}
 use Rattle.identity.specs.Identity.{digitsOf}
 use Rattle.walk.specs.Walk.{maskDigits}
 use Rattle.walk.proofs.Model.{Prefix}
 use Rattle.walk.proofs.MaskLaws.{digits-small}
 use Rattle.walk.specs.Entries.{begins}
-use Rattle.packed.specs.Marks.{inside}
 use Rattle.packed.specs.Packed.{spanOf}
 use Rattle.search.proofs.KeyDigits.{keyFrom, Nibbles, key-digits, digits-eight, digits-nibbles, digits-key, key-small}
 
@@ -44,7 +44,7 @@ nibbles-tail (d ∷ p) u n = (n .0, nibbles-tail p u (n .1))
 
 -- to have a prefix is to lie in its range
 pub range-begins : (u : ℕ) (p ds : List ℕ) (a : ℕ) → Nibbles p → Nibbles ds → length ds ≡ length p + u
-    → inside (keyFrom a (p ++ zeros u)) (keyFrom a (p ++ effs u)) (keyFrom a ds) ≡ begins p ds
+    → within (keyFrom a (p ++ zeros u)) (keyFrom a (p ++ effs u)) (keyFrom a ds) ≡ begins p ds
 range-begins u [] ds a np nd l =
     let e : length ds ≡ u = omega arith in
     let lo : keyFrom a (zeros u) ≤ keyFrom a ds = rw (sym e) (least ds a a (omega arith)) in
@@ -54,8 +54,8 @@ range-begins u (d ∷ p) [] a np nd l = absurd (omega arith)
 range-begins u (d ∷ p) (x ∷ ds) a np nd l = go (eqb d x) (leb d x) refl refl (range-begins u p ds (a * 16 + d) (np .1) (nd .1) (omega arith))
   where
     go : (s t : Bool) → eqb d x ≡ s → leb d x ≡ t
-        → inside (keyFrom (a * 16 + d) (p ++ zeros u)) (keyFrom (a * 16 + d) (p ++ effs u)) (keyFrom (a * 16 + d) ds) ≡ begins p ds
-        → inside (keyFrom (a * 16 + d) (p ++ zeros u)) (keyFrom (a * 16 + d) (p ++ effs u)) (keyFrom (a * 16 + x) ds) ≡ (s && begins p ds)
+        → within (keyFrom (a * 16 + d) (p ++ zeros u)) (keyFrom (a * 16 + d) (p ++ effs u)) (keyFrom (a * 16 + d) ds) ≡ begins p ds
+        → within (keyFrom (a * 16 + d) (p ++ zeros u)) (keyFrom (a * 16 + d) (p ++ effs u)) (keyFrom (a * 16 + x) ds) ≡ (s && begins p ds)
     go true t es et ih = rw (sym (eqb-true d x es)) ih
     go false true es et ih =
         let h : d < x = omega (arith, leb-true d x et, eqb-false d x es) in
@@ -133,9 +133,9 @@ low-next p d u =
 
 -- an id is in a mask exactly if it begins with the prefix
 pub inside-begins : (p : List ℕ) (u key : ℕ) → Prefix p → length p + u ≡ 8 → key < 0x100000000
-    → inside (lowOf p u) (lowOf p u + spanOf u) key ≡ begins p (digitsOf key)
+    → within (lowOf p u) (lowOf p u + spanOf u) key ≡ begins p (digitsOf key)
 inside-begins p u key w l h =
-    ap₂ (λ x y. inside (lowOf p u) x y) (sym (high-of p u)) (sym (key-digits key h))
+    ap₂ (λ x y. within (lowOf p u) x y) (sym (high-of p u)) (sym (key-digits key h))
     ∙ range-begins u p (digitsOf key) 0 (digits-small p (w .digits)) (digits-nibbles key) (digits-eight key ∙ sym l)
 
 -- a mute's mask as a number

@@ -1,4 +1,4 @@
--- What `Values.antt` says, held to the paper's examples. Assumes nothing.
+-- What `Values.antt` says, held to the examples of 01. Assumes nothing.
 use mathlib.Core.Path.{_≡_, refl}
 use mathlib.Core.List.{[], _∷_}
 use Rattle.values.specs.Values.{little, bcd}

@@ -23,7 +23,7 @@ atBus bus m = eqb (m .baud) bus
 abbrev pub atBusBaud : Plain → List PlainMeter
 atBusBaud s = keep (atBus (s .baud)) (s .meters)
 
--- "with a flaky meter at bus baud no more is claimed": none is
+-- "with a flaky meter at bus baud no more is claimed": no meter at bus baud is flaky
 abbrev pub NoFlaky : Plain → Type 0
 NoFlaky s = Every (λ m. flaky (m .fault) ≡ false) (atBusBaud s)
 

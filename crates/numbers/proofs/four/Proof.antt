@@ -1,4 +1,4 @@
--- `meter_image::four` meets its contract. Assumes nothing.
+-- `numbers::four` meets its contract. Assumes nothing.
 use native.Mathlib.Omega.{arith}
 use Rattle.numbers.specs.Number.{number}
 use borrow.Author.Needs.{needs}

@@ -1,4 +1,4 @@
--- `image::eight_bytes` meets its contract. Assumes nothing.
+-- `image::copying::eight_bytes` meets its contract. Assumes nothing.
 use mathlib.Core.Path.{_≡_, refl, ap, _∙_}
 use mathlib.Core.List.{[], _∷_}
 use Prim.Native.Nat.{_/_, _%_}

@@ -1,4 +1,4 @@
--- `meter_image::meter_bytes` meets its contract. Assumes nothing.
+-- `meter_image::meters::meter_bytes` meets its contract. Assumes nothing.
 use mathlib.Core.Path.{refl}
 use Rattle.numbers.specs.Number.{number}
 use Rattle.meter_image.proofs.MeterLaws.{meter-is}

@@ -1,4 +1,4 @@
--- `search_call::put_entries` meets its contract. Assumes nothing.
+-- `search_call::entries::put_entries` meets its contract. Assumes nothing.
 use mathlib.Core.Path.{_≡_, refl, sym, ap, subst, _∙_}
 use mathlib.Core.List.{_++_}
 use Prim.Native.Nat.{ℕ, _+_, _*_, _-_, _≤_}

@@ -1,4 +1,4 @@
--- `search_call::summary_of` meets its contract. Assumes nothing.
+-- `search_call::entries::summary_of` meets its contract. Assumes nothing.
 use mathlib.Core.Path.{ap, _∙_}
 use mathlib.Core.List.{List, _++_}
 use Prim.Native.Nat.{ℕ}
