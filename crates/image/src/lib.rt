@@ -163,7 +163,7 @@ fn write_parts(s: Segment, bs: &mut [u8])
     write_meters(meters, count, &mut bs[4374..]);
 }
 
-// The image means the segment. Which bytes those have that have no part in its meaning is not said.
+// The image then means the segment. Its bytes that have no part in that are not spoken of.
 pub fn write_image(s: Segment, image: &mut [u8; IMAGE])
     ensures { λ _. ⌜ imaged (now (image .exit)) ≡ plainOf s ⌝ }
 {

@@ -2,9 +2,9 @@
 use mathlib.Core.Bool.{Bool, true, _&&_, _||_, not}
 use mathlib.Core.List.{List, [], _∷_, map}
 use Prim.Native.Nat.{ℕ, _-_}
-use lib.Dec.{eqb, leb, ltb}
+use lib.Dec.{eqb, ltb}
 use lib.ListN.{length}
-use Rattle.laws.specs.Words.{if_then_else_, sameList}
+use Rattle.laws.specs.Words.{if_then_else_, within, sameList}
 use Rattle.meter.specs.Meter.{rates}
 use Rattle.rules.specs.Tables.{media, faults, isMedium, isFault, isRate, medium-heat-old}
 use Rattle.meter_list.specs.Layout.{Listed}
@@ -12,7 +12,7 @@ use Rattle.meter_list.specs.Layout.{Listed}
 -- every byte lies between two
 abbrev pub allWithin : ℕ → ℕ → List ℕ → Bool
 allWithin lo hi [] = true
-allWithin lo hi (b ∷ bs) = leb lo b && leb b hi && allWithin lo hi bs
+allWithin lo hi (b ∷ bs) = within lo hi b && allWithin lo hi bs
 
 -- the digits of an id's text: "The id's digits are its BCD nibbles"
 abbrev pub textDigits : List ℕ → List ℕ
