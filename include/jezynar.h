@@ -1,6 +1,7 @@
 /* The simulated M-Bus segment: the entry points of the static library.
  *
  * A segment is an image, JEZYNAR_IMAGE bytes that the caller keeps between the calls. Any bytes are an image.
+ * A call that writes it writes every byte, those not in use as 0: equal segments then have equal images.
  * The library has no state of its own, and a thread with 128 KiB of stack is enough for every call.
  * A slice crosses as a pointer and its length; an array as a pointer to exactly that many bytes. The image, and lent
  * memory that is written, overlap no other memory of the same call. An empty slice may have any pointer.

@@ -1,10 +1,10 @@
 -- Blocks of a list after a copy into it.
 use mathlib.Core.Path.{_≡_, sym, ap, _∙_}
-use mathlib.Core.List.{List, _++_, append-assoc}
+use mathlib.Core.List.{List, [], _++_, append-assoc}
 use Prim.Native.Nat.{ℕ, _+_, _-_, _≤_}
 use native.Mathlib.Omega.{arith}
 use lib.ListN.{length, take, drop, length-take, length-drop}
-use lib.Seq.{paste, take-paste, length-paste, take-append-le, take-all, take-take, drop-at, length-take-le}
+use lib.Seq.{paste, take-paste, length-paste, take-append-le, take-all, take-take, drop-at, drop-length, length-take-le}
 use Rattle.laws.proofs.Copy.{drop-take}
 use Rattle.image.specs.Image.{block}
 
@@ -41,3 +41,6 @@ rest p l = take-all (length l - p) (drop p l) (rw length-drop (omega arith))
 
 pub length-rest : (p n : ℕ) (l : List ℕ) → length l ≡ p + n → length (take (length l - p) (drop p l)) ≡ n
 length-rest p n l h = ap length (rest p l) ∙ length-drop p l ∙ omega arith
+
+pub nothing-left : (p : ℕ) (l : List ℕ) → drop (length l - p) (drop p l) ≡ []
+nothing-left p l = ap (λ (n : ℕ). drop n (drop p l)) (sym (length-drop p l)) ∙ drop-length (drop p l)

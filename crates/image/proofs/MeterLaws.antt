@@ -6,11 +6,14 @@ use native.Mathlib.Numerals.{add-one}
 use native.Mathlib.Omega.{arith}
 use lib.ListN.{length, take, drop, set, getD, length-drop, length-append}
 use lib.Seq.{paste, take-append-le, drop-drop, take-take, take-all, take-suc, take-suc-set, length-paste}
+use Rattle.laws.specs.Rows.{rows}
 use Rattle.laws.proofs.Copy.{drop-take}
+use Rattle.laws.proofs.Rows.{Rows, rows-begin, rows-more, rows-map}
 use Rattle.meter.specs.PlainMeter.{PlainMeter}
 use Rattle.meter.specs.View.{plainMeter}
 use Rattle.meter.specs.declared.Meter.{Meter}
-use Rattle.meter_image.specs.MeterBytes.{metered}
+use Rattle.meter_image.specs.MeterBytes.{metered, meterBytes}
+use Rattle.meter_image.proofs.MeterLaws.{meter-long}
 use Rattle.image.specs.Image.{block, meters}
 use Rattle.image.proofs.Blocks.{paste-before, paste-at}
 
@@ -55,18 +58,28 @@ module _ {bs : List ℕ} where
   pub got-all : {i : ℕ} {ms : List Meter} (n : ℕ) → Got bs i ms → i ≡ n → map plainMeter (take n ms) ≡ meters n bs
   got-all {i} {ms} n g e = subst (λ (k : ℕ). map plainMeter (take k ms) ≡ meters k bs) e (g .is)
 
--- the first i meters of ms are written into bs
-pub record Put (ms : List Meter) (i : ℕ) (bs : List ℕ) : Type 0 where
+abbrev bytes : Meter → List ℕ
+bytes m = meterBytes (plainMeter m)
+
+bytes-long : (m : Meter) → length (bytes m) ≡ 25
+bytes-long m = meter-long (plainMeter m)
+
+-- the first i meters of ms are written into bs₀, which is then bs
+pub record Put (ms : List Meter) (bs₀ : List ℕ) (i : ℕ) (bs : List ℕ) : Type 0 where
+  pub written : Rows bytes 25 ms bs₀ i bs
   pub is : meters i bs ≡ map plainMeter (take i ms)
 
-module _ {ms : List Meter} where
-  pub put-none : {bs : List ℕ} → Put ms 0 bs
-  put-none = record { is = unfold meters in refl }
+module _ {ms : List Meter} {bs₀ : List ℕ} where
+  pub put-none : Put ms bs₀ 0 bs₀
+  put-none = record { written = rows-begin bytes 25 bytes-long; is = unfold meters in refl }
 
-  pub put-more : {i : ℕ} {bs : List ℕ} (b : List ℕ) (d : Meter) → Put ms i bs → i < length ms → 25 * i + 25 ≤ length bs → length b ≡ 25 → metered b ≡ plainMeter (getD ms i d) → Put ms (i + 1) (paste bs (25 * i) b 25)
-  put-more {i} {bs} b d g h k w e =
+  pub put-more : {i : ℕ} {bs : List ℕ} (b : List ℕ) (d : Meter) → Put ms bs₀ i bs → i < length ms → 25 * i + 25 ≤ length bs → b ≡ bytes (getD ms i d) → metered b ≡ plainMeter (getD ms i d)
+      → Put ms bs₀ (i + 1) (paste bs (25 * i) b 25)
+  put-more {i} {bs} b d g h k v e =
+      let w : length b ≡ 25 = ap length v ∙ bytes-long (getD ms i d) in
       let l : length (paste bs (25 * i) b 25) ≡ length bs = length-paste bs (25 * i) b 25 k (omega arith) in
       record {
+        written = rows-more bytes 25 bytes-long (g .written) b d h v;
         is =
             rw (
               add-one,
@@ -81,8 +94,11 @@ module _ {ms : List Meter} where
             (sym (map-append plainMeter (take i ms) (getD ms i d ∷ [])));
       }
 
-  pub put-all : {i : ℕ} {bs : List ℕ} (n : ℕ) → Put ms i bs → i ≡ n → meters n bs ≡ map plainMeter (take n ms)
-  put-all {i} {bs} n g e = subst (λ (k : ℕ). meters k bs ≡ map plainMeter (take k ms)) e (g .is)
+  pub put-all : {i : ℕ} {bs : List ℕ} (n : ℕ) → Put ms bs₀ i bs → i ≡ n
+      → (bs ≡ rows meterBytes (map plainMeter (take n ms)) ++ drop (25 * n) bs₀) × (meters n bs ≡ map plainMeter (take n ms))
+  put-all {i} {bs} n g e =
+      subst (λ (k : ℕ). (bs ≡ rows meterBytes (map plainMeter (take k ms)) ++ drop (25 * k) bs₀) × (meters k bs ≡ map plainMeter (take k ms))) e
+      (g .written .is ∙ ap (λ (r : List ℕ). r ++ drop (25 * i) bs₀) (rows-map meterBytes plainMeter (take i ms)), g .is)
 
 -- what lies behind the meters has no part in them
 pub meters-front : (i : ℕ) (bs r : List ℕ) → 25 * i ≤ length bs → meters i (bs ++ r) ≡ meters i bs

@@ -4,14 +4,16 @@ use mathlib.Core.List.{List, _++_, map}
 use Prim.Native.Nat.{ℕ, _+_, _*_, _≤_, min}
 use native.Mathlib.Omega.{arith}
 use lib.Ieee.{Float, binary64, ofBits}
-use lib.ListN.{length, take, drop, length-append}
+use lib.ListN.{length, take, drop, replicate, length-append, length-replicate}
 use lib.Seq.{paste, length-paste, take-at, drop-at, take-take, length-take-le, take-all}
 use Rattle.laws.proofs.Copy.{take-min}
+use Rattle.laws.specs.Rows.{rows}
 use Rattle.meter.specs.View.{plainMeter}
+use Rattle.meter_image.specs.MeterBytes.{meterBytes}
 use Rattle.scenarios.specs.Opening.{capacity}
 use Rattle.bus.specs.View.{plainOf}
 use Rattle.bus.specs.declared.Segment.{Segment}
-use Rattle.image.specs.Image.{block, meters, imaged, Head}
+use Rattle.image.specs.Image.{block, meters, imaged, Head, headBytes}
 use Rattle.numbers.specs.Number.{number}
 use Rattle.numbers.proofs.NumberLaws.{number-take}
 use Rattle.image.proofs.Blocks.{paste-before, paste-at, block-same}
@@ -48,7 +50,7 @@ head-of l h =
       queued-at = sym (number-take 2 16 18 l (omega arith)) ∙ h .queued-at;
     }
 
--- head, input and queue are copied over an image l₀, each behind the other, and then come the meters' bytes ms
+-- head, input and queue are copied over bytes 0, l₀, each behind the other, and then come the meters' bytes ms
 pub record Copies (s : Segment) (c w q : ℕ) (head l₀ l₁ l₂ l₃ ms : List ℕ) : Type 0 where
   pub count-is : c ≡ min (s .count) capacity
   pub waiting-is : w ≡ min (s .waiting) 260
@@ -56,18 +58,23 @@ pub record Copies (s : Segment) (c w q : ℕ) (head l₀ l₁ l₂ l₃ ms : Lis
   pub input-long : length (s .input) ≡ 260
   pub queue-long : length (s .queue) ≡ 4096
   pub meters-long : length (s .meters) ≡ capacity
-  pub long : length l₀ ≡ 4374 + 25 * capacity
+  pub blank : l₀ ≡ replicate (4374 + 25 * capacity) 0
   pub head-long : length head ≡ 18
+  pub head-bytes : head ≡ headBytes (s .baud) (s .origin) c w q
   pub head-is : Head (s .baud) (s .origin) c w q head
   pub first : l₁ ≡ paste l₀ 0 head 18
   pub second : l₂ ≡ paste l₁ 18 (s .input) w
   pub third : l₃ ≡ paste l₂ 278 (s .queue) q
   pub ms-long : length ms ≡ 25 * capacity
+  pub rows-are : ms ≡ rows meterBytes (map plainMeter (take c (s .meters))) ++ drop (25 * c) (drop 4374 l₃)
   pub last : meters c ms ≡ map plainMeter (take c (s .meters))
 
 module _ {s : Segment} {c w q : ℕ} {head l₀ l₁ l₂ l₃ ms : List ℕ} (k : Copies s c w q head l₀ l₁ l₂ l₃ ms) where
+  long : length l₀ ≡ 4374 + 25 * capacity
+  long = ap length (k .blank) ∙ length-replicate (4374 + 25 * capacity) 0
+
   room₁ : 0 + 18 ≤ length l₀
-  room₁ = omega (arith, k .long)
+  room₁ = omega (arith, long)
 
   long₁ : length l₁ ≡ length l₀
   long₁ = ap length (k .first) ∙ length-paste l₀ 0 head 18 room₁ (omega (arith, k .head-long))
@@ -79,13 +86,13 @@ module _ {s : Segment} {c w q : ℕ} {head l₀ l₁ l₂ l₃ ms : List ℕ} (k
   q-most = counted-most q (s .queued) 4096 (k .queued-is)
 
   room₂ : 18 + w ≤ length l₁
-  room₂ = omega (arith, k .long, long₁, w-most)
+  room₂ = omega (arith, long, long₁, w-most)
 
   long₂ : length l₂ ≡ length l₁
   long₂ = ap length (k .second) ∙ length-paste l₁ 18 (s .input) w room₂ (omega (arith, k .input-long, w-most))
 
   room₃ : 278 + q ≤ length l₂
-  room₃ = omega (arith, k .long, long₁, long₂, q-most)
+  room₃ = omega (arith, long, long₁, long₂, q-most)
 
   long₃ : length l₃ ≡ length l₂
   long₃ = ap length (k .third) ∙ length-paste l₂ 278 (s .queue) q room₃ (omega (arith, k .queue-long, q-most))
@@ -96,7 +103,7 @@ module _ {s : Segment} {c w q : ℕ} {head l₀ l₁ l₂ l₃ ms : List ℕ} (k
     out = take 4374 l₃ ++ (ms ++ end)
 
     most : 4374 ≤ length l₃
-    most = omega (arith, k .long, long₁, long₂, long₃)
+    most = omega (arith, long, long₁, long₂, long₃)
 
     most-out : 4374 ≤ length out
     most-out = rw (length-append (take 4374 l₃) (ms ++ end), length-take-le 4374 l₃ most) (omega arith)

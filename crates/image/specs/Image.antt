@@ -1,11 +1,13 @@
--- What the bytes of an image mean: where each part of a segment lies, and what it says. Any bytes mean a segment.
+-- A segment as bytes: what the bytes of an image mean (any bytes mean a segment), and the image that a segment has.
 use mathlib.Core.Path.{_≡_}
-use mathlib.Core.List.{List, [], _∷_}
-use Prim.Native.Nat.{ℕ, zero, suc, _+_, _*_, min}
-use lib.Ieee.{Float, binary64, ofBits}
-use lib.ListN.{take, drop}
+use mathlib.Core.List.{List, [], _∷_, _++_}
+use Prim.Native.Nat.{ℕ, zero, suc, _+_, _-_, _*_, min}
+use lib.Ieee.{Float, binary64, toBits, ofBits}
+use lib.ListN.{length, take, drop, replicate}
+use Rattle.laws.specs.Rows.{rows}
+use Rattle.values.specs.Values.{little}
 use Rattle.meter.specs.PlainMeter.{PlainMeter}
-use Rattle.meter_image.specs.MeterBytes.{metered}
+use Rattle.meter_image.specs.MeterBytes.{metered, meterBytes}
 use Rattle.numbers.specs.Number.{number}
 use Rattle.scenarios.specs.Opening.{capacity}
 use Rattle.bus.specs.Plain.{Plain}
@@ -46,3 +48,26 @@ pub record Head (baud : ℕ) (origin : Float) (count waiting queued : ℕ) (bs :
   pub count-at : number 2 12 bs ≡ count
   pub waiting-at : number 2 14 bs ≡ waiting
   pub queued-at : number 2 16 bs ≡ queued
+
+-- ---- and back
+
+-- the first 18 bytes. A NaN has one pattern
+unfoldable pub headBytes : ℕ → Float → ℕ → ℕ → ℕ → List ℕ
+headBytes baud origin count waiting queued = little 4 baud ++ little 8 (toBits binary64 origin) ++ little 2 count ++ little 2 waiting ++ little 2 queued
+
+-- some bytes, and 0 behind them, n in all
+abbrev pub filled : ℕ → List ℕ → List ℕ
+filled n bs = bs ++ replicate (n - length bs) 0
+
+-- the image of a segment: every byte that is not in use is 0
+unfoldable pub imageOf : Plain → List ℕ
+imageOf s =
+    headBytes (s .baud) (s .origin) (length (s .meters)) (length (s .input)) (length (s .queue))
+    ++ filled 260 (s .input)
+    ++ filled 4096 (s .queue)
+    ++ filled (25 * capacity) (rows meterBytes (s .meters))
+
+-- the image of a segment, which means it
+pub record IsImage (s : Plain) (bs : List ℕ) : Type 0 where
+  pub bytes : bs ≡ imageOf s
+  pub means : imaged bs ≡ s

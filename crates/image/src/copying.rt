@@ -1,8 +1,9 @@
 // The eight bytes of an f64's pattern, and blocks of bytes.
 ghost use mathlib.Core.Path.{_≡_};
 ghost use Prim.Native.Nat.{_+_, _≤_};
-ghost use lib.ListN.{length, drop};
+ghost use lib.ListN.{length, drop, replicate};
 ghost use lib.Seq.{paste};
+ghost use Rattle.values.specs.Values.{little};
 ghost use Rattle.numbers.specs.Number.{number};
 
 // The pattern of the origin, 8 bytes at 4.
@@ -16,9 +17,9 @@ pub(crate) fn origin_bits(bs: &[u8]) -> u64
 }
 
 pub(crate) fn eight_bytes(v: u64) -> [u8; 8]
-    ensures { λ r. ⌜ number 8 0 r ≡ v ⌝ }
+    ensures { λ r. ⌜ r ≡ little 8 v ⌝ }
 {
-    let low = values::le4(v % 4294967296);
+    let low = values::le4(v);
     let high = values::le4(v / 4294967296);
     [
         low[0],
@@ -40,6 +41,17 @@ pub(crate) fn copy(from: &[u8], start: usize, n: usize, to: &mut [u8], p: usize)
     let mut j: usize = 0;
     while j < n {
         to[p + j] = from[start + j];
+        j += 1;
+    }
+}
+
+// Every byte becomes 0.
+pub(crate) fn blank(to: &mut [u8])
+    ensures { λ _. ⌜ now (to .exit) ≡ replicate (length (now (to .entry))) 0 ⌝ }
+{
+    let mut j: usize = 0;
+    while j < to.len() {
+        to[j] = 0;
         j += 1;
     }
 }

@@ -1,14 +1,16 @@
 // A segment as an array of bytes and back, so that a caller in another language keeps it between calls.
 // specs/Image.antt says where each part lies.
 ghost use mathlib.Core.Path.{_≡_};
-ghost use mathlib.Core.List.{map};
+ghost use mathlib.Core.List.{map, _++_};
 ghost use Prim.Native.Nat.{_+_, _*_, _≤_, _<_};
-ghost use lib.ListN.{length, take, drop};
+ghost use lib.ListN.{length, take, drop, replicate};
 ghost use lib.Seq.{paste};
+ghost use Rattle.laws.specs.Rows.{rows};
 ghost use Rattle.scenarios.specs.Opening.{capacity};
 ghost use Rattle.meter.specs.View.{plainMeter};
+ghost use Rattle.meter_image.specs.MeterBytes.{meterBytes};
 ghost use Rattle.bus.specs.View.{plainOf};
-ghost use Rattle.image.specs.Image.{block, meters, imaged, Head};
+ghost use Rattle.image.specs.Image.{block, meters, imaged, Head, headBytes, IsImage};
 use bus::METERS;
 use bus::Segment;
 use laws::least;
@@ -49,7 +51,7 @@ fn read_meters(bs: &[u8], count: usize) -> [Meter; METERS]
 // The first count meters.
 fn write_meters(ms: [Meter; METERS], count: usize, bs: &mut [u8])
     requires { ⌜ (length (now bs) ≡ 25 * capacity) × (count ≤ capacity) ⌝ }
-    ensures { λ _. ⌜ meters count (now (bs .exit)) ≡ map plainMeter (take count ms) ⌝ }
+    ensures { λ _. ⌜ (now (bs .exit) ≡ rows meterBytes (map plainMeter (take count ms)) ++ drop (25 * count) (now (bs .entry))) × (meters count (now (bs .exit)) ≡ map plainMeter (take count ms)) ⌝ }
 {
     let mut i: usize = 0;
     while i < count {
@@ -116,7 +118,7 @@ pub fn read_image(image: &[u8; IMAGE]) -> Segment
 // The first 18 bytes. A NaN goes as one fixed pattern.
 fn head_bytes(baud: u32, origin: f64, count: usize, waiting: usize, queued: usize) -> [u8; 18]
     requires { ⌜ (count < 65536) × (waiting < 65536) × (queued < 65536) ⌝ }
-    ensures { λ r. ⌜ Head baud origin count waiting queued r ⌝ }
+    ensures { λ r. ⌜ (r ≡ headBytes baud origin count waiting queued) × Head baud origin count waiting queued r ⌝ }
 {
     let b = values::le4(baud as u64);
     let o = copying::eight_bytes(seconds::f64_bits(origin));
@@ -145,10 +147,10 @@ fn head_bytes(baud: u32, origin: f64, count: usize, waiting: usize, queued: usiz
     ]
 }
 
-// What a count says beyond its array is cut off, so that two bytes suffice.
+// The parts in use, over bytes 0. What a count says beyond its array is cut off, so that two bytes suffice.
 fn write_parts(s: Segment, bs: &mut [u8])
-    requires { ⌜ length (now bs) ≡ 4374 + 25 * capacity ⌝ }
-    ensures { λ _. ⌜ imaged (now (bs .exit)) ≡ plainOf s ⌝ }
+    requires { ⌜ (length (now bs) ≡ 4374 + 25 * capacity) × (now bs ≡ replicate (length (now bs)) 0) ⌝ }
+    ensures { λ _. ⌜ IsImage (plainOf s) (now (bs .exit)) ⌝ }
 {
     let count = least(s.count, METERS);
     let waiting = least(s.waiting, 260);
@@ -163,10 +165,11 @@ fn write_parts(s: Segment, bs: &mut [u8])
     write_meters(meters, count, &mut bs[4374..]);
 }
 
-// The image then means the segment. Its bytes that have no part in that are not spoken of.
+// The image of the segment. Equal segments have equal images.
 pub fn write_image(s: Segment, image: &mut [u8; IMAGE])
-    ensures { λ _. ⌜ imaged (now (image .exit)) ≡ plainOf s ⌝ }
+    ensures { λ _. ⌜ IsImage (plainOf s) (now (image .exit)) ⌝ }
 {
+    copying::blank(image);
     write_parts(s, image)
 }
 

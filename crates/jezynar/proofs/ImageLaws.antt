@@ -25,8 +25,11 @@ use Rattle.rules.specs.declared.Failing.the-variants.{BadPrimary, BadId, BadMan
 use Rattle.bus.specs.Plain.{Plain, withInput}
 use Rattle.bus.specs.Calls as calls
 use Rattle.bus.specs.Calls.{Done, afterOpening}
-use Rattle.image.specs.Image.{imaged}
-use Rattle.jezynar.specs.Answers.{doneBy, receivedBy, DoneImage}
+use Rattle.image.specs.Image.{imaged, imageOf, IsImage}
+use Rattle.jezynar.specs.Answers.{doneBy, receivedBy, DoneImage, ReceivedImage}
+
+pub image-of : {s t : Plain} {bs : List ℕ} → IsImage s bs → s ≡ t → IsImage t bs
+image-of i e = record { bytes = i .bytes ∙ ap imageOf e; means = i .means ∙ e }
 
 -- ---- a refused call changes nothing
 
@@ -45,21 +48,27 @@ module _ (call : Plain → Done) (before : List ℕ) (p : Plain) (d : Done) (i :
       let s : d .segment ≡ p = ap (λ (x : Done). x .segment) e ∙ stays p (subst (λ (x : ℕ). 0 < x) (m ∙ ap (λ (x : Done). x .number) e) h) in
       record {
         answer = ap (λ (x : ℕ). record { number = x; segment = imaged before }) m ∙ ap (λ (x : Plain). record { number = d .number; segment = x }) (sym i ∙ sym s) ∙ e ∙ ap call i;
+        bytes = λ z. absurd (omega (arith, h, z));
         kept = λ _. refl;
       }
 
-  pub accepted-call : (after : List ℕ) → 0 ≡ d .number → imaged after ≡ d .segment → DoneImage (call (imaged before)) 0 before after
+  pub accepted-call : (after : List ℕ) → 0 ≡ d .number → IsImage (d .segment) after → DoneImage (call (imaged before)) 0 before after
   unfolding doneBy
   accepted-call after m s =
       record {
-        answer = ap (λ (x : ℕ). record { number = x; segment = imaged after }) m ∙ ap (λ (x : Plain). record { number = d .number; segment = x }) s ∙ e ∙ ap call i;
+        answer = ap (λ (x : ℕ). record { number = x; segment = imaged after }) m ∙ ap (λ (x : Plain). record { number = d .number; segment = x }) (s .means) ∙ e ∙ ap call i;
+        bytes = λ _. s .bytes ∙ ap (λ (x : Done). imageOf (x .segment)) (e ∙ ap call i);
         kept = λ h. absurd (omega (arith, h));
       }
 
-pub received-call : (before after lent lent₁ : List ℕ) (n : ℕ) (p q : Plain) → p ≡ imaged before → record { count = n; lent = lent₁; segment = q } ≡ calls.receive lent p → imaged after ≡ q
-    → receivedBy n lent₁ after ≡ calls.receive lent (imaged before)
+pub received-call : (before after lent lent₁ : List ℕ) (n : ℕ) (p q : Plain) → p ≡ imaged before → record { count = n; lent = lent₁; segment = q } ≡ calls.receive lent p → IsImage q after
+    → ReceivedImage (calls.receive lent (imaged before)) n lent₁ after
 unfolding receivedBy
-received-call before after lent lent₁ n p q i e w = ap (λ (x : Plain). record { count = n; lent = lent₁; segment = x }) w ∙ e ∙ ap (calls.receive lent) i
+received-call before after lent lent₁ n p q i e w =
+    record {
+      answer = ap (λ (x : Plain). record { count = n; lent = lent₁; segment = x }) (w .means) ∙ e ∙ ap (calls.receive lent) i;
+      bytes = w .bytes ∙ ap (λ (x : calls.Received). imageOf (x .segment)) (e ∙ ap (calls.receive lent) i);
+    }
 
 -- ---- opening: the number and the index
 

@@ -10,8 +10,8 @@ ghost use Rattle.bus.specs.Calls;
 ghost use Rattle.bus.specs.View.{changingNumber};
 ghost use Rattle.send.specs.Send;
 ghost use Rattle.send.specs.View.{sendingNumber};
-ghost use Rattle.image.specs.Image.{imaged, imageLen};
-ghost use Rattle.jezynar.specs.Answers.{DoneImage, OpenedImage, receivedBy};
+ghost use Rattle.image.specs.Image.{imaged, imageLen, IsImage};
+ghost use Rattle.jezynar.specs.Answers.{DoneImage, OpenedImage, ReceivedImage};
 ghost use Rattle.search_call.specs.Searches.{searchBy, Searches};
 ghost use Rattle.telegram_calls.specs.Telegrams.{Parses, telegramBy, Writes};
 use bus::Changing;
@@ -34,7 +34,7 @@ pub extern "C" fn segment_image_len() -> usize
 // No meters, 2400 Bd, origin 0.
 #[no_mangle]
 pub extern "C" fn segment_new(image: &mut [u8; IMAGE])
-    ensures { λ _. ⌜ imaged (now (image .exit)) ≡ blank ⌝ }
+    ensures { λ _. ⌜ IsImage blank (now (image .exit)) ⌝ }
 {
     let fresh = Segment::new();
     image::write_image(fresh, image);
@@ -43,7 +43,7 @@ pub extern "C" fn segment_new(image: &mut [u8; IMAGE])
 // Empties the queue alone.
 #[no_mangle]
 pub extern "C" fn segment_clear(image: &mut [u8; IMAGE])
-    ensures { λ _. ⌜ imaged (now (image .exit)) ≡ Calls.clear (imaged (now (image .entry))) ⌝ }
+    ensures { λ _. ⌜ IsImage (Calls.clear (imaged (now (image .entry)))) (now (image .exit)) ⌝ }
 {
     let s = image::read_image(image);
     let cleared = bus::clear(s);
@@ -157,7 +157,7 @@ pub extern "C" fn segment_send(
 // Hands out the least of 32, the lent length and the queued bytes.
 #[no_mangle]
 pub extern "C" fn segment_receive(image: &mut [u8; IMAGE], lent: &mut [u8]) -> usize
-    ensures { λ r. ⌜ receivedBy r (now (lent .exit)) (now (image .exit)) ≡ Calls.receive (now (lent .entry)) (imaged (now (image .entry))) ⌝ }
+    ensures { λ r. ⌜ ReceivedImage (Calls.receive (now (lent .entry)) (imaged (now (image .entry)))) r (now (lent .exit)) (now (image .exit)) ⌝ }
 {
     let s = image::read_image(image);
     let done = bus::receive(s, lent);

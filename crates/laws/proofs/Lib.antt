@@ -1,3 +1,4 @@
 pub mod Copy
 pub mod Lists
+pub mod Rows
 pub mod Sweep

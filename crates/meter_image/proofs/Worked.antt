@@ -4,11 +4,12 @@ use mathlib.Core.Bool.{true, false}
 use mathlib.Core.List.{List, [], _∷_}
 use Prim.Native.Nat.{ℕ}
 use Rattle.meter.specs.PlainMeter.{PlainMeter}
-use Rattle.identity.specs.Identity.{digitsOf}
+use Rattle.values.specs.Values.{little}
+use Rattle.identity.specs.Identity.{idBytes, digitsOf}
 use Rattle.meter.specs.declared.Fault.the-variants.{Flaky}
 use Rattle.meter.specs.declared.Model.the-variants.{Water}
 use Rattle.meter.specs.declared.LastFcb.the-variants.{Set}
-use Rattle.meter_image.specs.MeterBytes.{metered}
+use Rattle.meter_image.specs.MeterBytes.{metered, meterBytes}
 use Rattle.numbers.specs.Number.{number}
 
 low-byte-first : number 4 1 (0xFF ∷ 0x78 ∷ 0x56 ∷ 0x34 ∷ 0x12 ∷ 0xFF ∷ []) ≡ 0x12345678
@@ -43,3 +44,7 @@ a-meter-is =
 meter-of-25-bytes : metered a-meter ≡ a-meter-is
 unfolding metered number digitsOf a-meter a-meter-is
 meter-of-25-bytes = refl
+
+bytes-of-a-meter : meterBytes a-meter-is ≡ a-meter
+unfolding meterBytes little idBytes a-meter a-meter-is
+bytes-of-a-meter = refl

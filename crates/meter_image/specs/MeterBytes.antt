@@ -1,13 +1,14 @@
--- What the bytes of a meter mean: where each part of a meter lies, and what it says.
+-- A meter as 25 bytes: what any bytes mean, and which bytes a meter has.
 use mathlib.Core.Bool.{Bool, not}
-use mathlib.Core.List.{List, [], _∷_}
+use mathlib.Core.List.{List, [], _∷_, _++_}
 use Prim.Native.Nat.{ℕ}
 use lib.Dec.{eqb, ltb}
 use lib.ListN.{length, getD}
-use Rattle.laws.specs.Words.{if_then_else_, at}
+use Rattle.laws.specs.Words.{if_then_else_, bitIf, at}
+use Rattle.values.specs.Values.{little}
 use Rattle.numbers.specs.Number.{number}
 use Rattle.meter.specs.PlainMeter.{PlainMeter}
-use Rattle.identity.specs.Identity.{digitsOf}
+use Rattle.identity.specs.Identity.{idBytes, digitsOf}
 use Rattle.meter.specs.declared.Fault.{Fault}
 use Rattle.meter.specs.declared.Fault.the-variants.{None, Checksum, Truncated, Busy, WrongAddress, Flaky, TooMany}
 use Rattle.meter.specs.declared.Model.{Model}
@@ -55,3 +56,37 @@ metered bs =
 -- the bytes that a meter is read from; fewer than 25 count as none
 abbrev pub wholeMeter : List ℕ → List ℕ
 wholeMeter bs = if ltb (length bs) 25 then [] else bs
+
+-- ---- and back
+
+abbrev pub modelByte : Model → ℕ
+modelByte Heat = 0
+modelByte Electricity = 1
+modelByte Water = 2
+modelByte Fixed = 3
+
+abbrev pub faultByte : Fault → ℕ
+faultByte None = 0
+faultByte Checksum = 1
+faultByte Truncated = 2
+faultByte Busy = 3
+faultByte WrongAddress = 4
+faultByte Flaky = 5
+faultByte TooMany = 6
+
+abbrev pub lastByte : LastFcb → ℕ
+lastByte Never = 0
+lastByte Clear = 1
+lastByte Set = 2
+
+-- the 25 bytes of a meter
+unfoldable pub meterBytes : PlainMeter → List ℕ
+meterBytes m =
+    m .primary
+    ∷ idBytes (m .digits)
+    ++ little 2 (m .manufacturer)
+    ++ (m .version ∷ m .medium ∷ modelByte (m .model) ∷ faultByte (m .fault) ∷ m .access ∷ [])
+    ++ little 4 (m .baud)
+    ++ (bitIf (m .selected) ∷ m .part ∷ lastByte (m .last) ∷ m .readouts ∷ [])
+    ++ little 4 (m .seed)
+    ++ (bitIf (m .hearsNext) ∷ [])

@@ -1,8 +1,9 @@
 // A meter as 25 bytes.
 ghost use mathlib.Core.Path.{_≡_};
 ghost use mathlib.Core.List.{[]};
+ghost use Rattle.laws.specs.Words.{bitIf};
 ghost use Rattle.meter.specs.View.{plainMeter};
-ghost use Rattle.meter_image.specs.MeterBytes.{flagBy, modelBy, faultBy, lastBy, wholeMeter, metered};
+ghost use Rattle.meter_image.specs.MeterBytes.{flagBy, modelBy, faultBy, lastBy, wholeMeter, metered, modelByte, faultByte, lastByte, meterBytes};
 use crate::written;
 use meter::Fault;
 use meter::LastFcb;
@@ -16,7 +17,7 @@ fn flag(b: u8) -> bool
 }
 
 fn flag_byte(b: bool) -> u8
-    ensures { λ r. ⌜ flagBy r ≡ b ⌝ }
+    ensures { λ r. ⌜ r ≡ bitIf b ⌝ }
 {
     if b { 1 } else { 0 }
 }
@@ -33,7 +34,7 @@ fn model(b: u8) -> Model
 }
 
 fn model_byte(m: Model) -> u8
-    ensures { λ r. ⌜ modelBy r ≡ m ⌝ }
+    ensures { λ r. ⌜ r ≡ modelByte m ⌝ }
 {
     match m {
         Model::Heat => 0,
@@ -58,7 +59,7 @@ fn fault(b: u8) -> Fault
 }
 
 fn fault_byte(f: Fault) -> u8
-    ensures { λ r. ⌜ faultBy r ≡ f ⌝ }
+    ensures { λ r. ⌜ r ≡ faultByte f ⌝ }
 {
     match f {
         Fault::None => 0,
@@ -82,7 +83,7 @@ fn last(b: u8) -> LastFcb
 }
 
 fn last_byte(l: LastFcb) -> u8
-    ensures { λ r. ⌜ lastBy r ≡ l ⌝ }
+    ensures { λ r. ⌜ r ≡ lastByte l ⌝ }
 {
     match l {
         LastFcb::Never => 0,
@@ -139,8 +140,9 @@ pub fn read_meter(bs: &[u8]) -> Meter
     }
 }
 
+// The bytes of a meter, which mean it.
 pub fn meter_bytes(m: Meter) -> [u8; 25]
-    ensures { λ r. ⌜ metered r ≡ plainMeter m ⌝ }
+    ensures { λ r. ⌜ (r ≡ meterBytes (plainMeter m)) × (metered r ≡ plainMeter m) ⌝ }
 {
     let id = written::four_bytes(m.id);
     let maker = written::two_bytes(m.manufacturer);

@@ -11,6 +11,8 @@ use lib.Seq.{paste, take-at, take-suc, drop-drop, drop-append-add, length-take-l
 use Rattle.scenarios.specs.Opening.{mostMeters}
 use Rattle.laws.proofs.Lists.{if-all, four-of}
 use Rattle.laws.specs.Words.{at}
+use Rattle.laws.specs.Rows.{rows}
+use Rattle.laws.proofs.Rows.{rows-none}
 use Rattle.values.specs.Values.{little}
 use Rattle.clock.specs.declared.Clock.{Clock}
 use Rattle.bus.specs.Plain.{Plain}
@@ -21,8 +23,8 @@ use Rattle.search.specs.declared.EntryRecord.{EntryRecord}
 use Rattle.search.specs.declared.Core.{Core}
 use Rattle.search.specs.SearchCall.{Searched, searchCall}
 use Rattle.search.specs.View.{noEntry, outcomeNumber, coreGives, CoreFinds}
-use Rattle.image.specs.Image.{imaged}
-use Rattle.search_call.specs.Searches.{kindByte, entryBytes, rows, summaryOf, searchBy, Searches}
+use Rattle.image.specs.Image.{imaged, imageOf, IsImage}
+use Rattle.search_call.specs.Searches.{kindByte, entryBytes, summaryOf, searchBy, Searches}
 
 -- ---- the summary
 
@@ -37,7 +39,7 @@ three-blocks a b c h k m =
 
 -- ---- entries, one behind the other
 
-length-entry : (e : EntryRecord) → length (entryBytes e) ≡ 16
+pub length-entry : (e : EntryRecord) → length (entryBytes e) ≡ 16
 unfolding entryBytes little
 length-entry e = refl
 
@@ -48,60 +50,6 @@ row-of e k n = let d = e .digits in k ∷ at d 0 ∷ at d 1 ∷ at d 2 ∷ at d 
 pub entry-is : (e : EntryRecord) (k : ℕ) (n : List ℕ) → k ≡ kindByte (e .kind) → length n ≡ 4 → n ≡ little 4 (e .count) → row-of e k (four n) ≡ entryBytes e
 unfolding entryBytes
 entry-is e k n h l w = ap (λ (j : ℕ). row-of e j (four n)) h ∙ ap (row-of e (kindByte (e .kind))) (four-of n l ∙ w)
-
-rows-append : (xs ys : List EntryRecord) → rows (xs ++ ys) ≡ rows xs ++ rows ys
-unfolding rows
-rows-append [] ys = refl
-rows-append (x ∷ xs) ys = ap (λ (r : List ℕ). entryBytes x ++ r) (rows-append xs ys) ∙ sym (append-assoc (entryBytes x) (rows xs) (rows ys))
-
-length-rows : (xs : List EntryRecord) → length (rows xs) ≡ 16 * length xs
-unfolding rows
-length-rows [] = refl
-length-rows (x ∷ xs) = length-append (entryBytes x) (rows xs) ∙ omega (arith, length-entry x, length-rows xs)
-
-rows-one : (e : EntryRecord) → rows (e ∷ []) ≡ entryBytes e
-unfolding rows
-rows-one e = append-nil (entryBytes e)
-
-rows-none : rows [] ≡ []
-unfolding rows
-rows-none = refl
-
--- the bytes l₀ after i of the entries es were written in front
-pub record Rows (es : List EntryRecord) (l₀ : List ℕ) (i : ℕ) (l : List ℕ) : Type 0 where
-  pub is : l ≡ rows (take i es) ++ drop (16 * i) l₀
-
-pub rows-begin : {es : List EntryRecord} {l₀ : List ℕ} → Rows es l₀ 0 l₀
-unfolding rows
-rows-begin = record { is = refl }
-
-module _ {es : List EntryRecord} {l₀ l : List ℕ} {i : ℕ} (r : Rows es l₀ i l) where
-  pub rows-more : (b : List ℕ) (z : EntryRecord) → i < length es → b ≡ entryBytes (getD es i z) → Rows es l₀ (i + 1) (paste l (16 * i) b 16)
-  rows-more b z h w =
-      let front = rows (take i es) in
-      let m : length front ≡ 16 * i = length-rows (take i es) ∙ ap (λ (n : ℕ). 16 * n) (length-take-le i es (omega (arith, h))) in
-      let t : take (16 * i) l ≡ front = ap (take (16 * i)) (r .is) ∙ take-at front (drop (16 * i) l₀) (16 * i) m in
-      let b16 : length b ≡ 16 = ap length w ∙ length-entry (getD es i z) in
-      let k : take 16 b ≡ b = ap (λ (x : List ℕ). take 16 x) (sym (append-nil b)) ∙ take-at b [] 16 b16 in
-      let more : 16 * i + 16 ≡ 16 * (i + 1) = omega arith in
-      let q : drop (16 * i + 16) l ≡ drop (16 * (i + 1)) l₀ =
-      ap (drop (16 * i + 16)) (r .is)
-      ∙ ap (λ (n : ℕ). drop (n + 16) (front ++ drop (16 * i) l₀)) (sym m)
-      ∙ drop-append-add front (drop (16 * i) l₀) 16
-      ∙ drop-drop 16 (16 * i) l₀
-      ∙ ap (λ (n : ℕ). drop n l₀) more in
-      let n : rows (take (i + 1) es) ≡ front ++ b =
-      ap (λ (n : ℕ). rows (take n es)) (add-one i)
-      ∙ ap rows (take-suc es i z h)
-      ∙ rows-append (take i es) (getD es i z ∷ [])
-      ∙ ap (λ (x : List ℕ). front ++ x) (rows-one (getD es i z) ∙ sym w) in
-      record {
-        is =
-            ap (λ (x : List ℕ). x ++ take 16 b ++ drop (16 * i + 16) l) t
-            ∙ ap (λ (x : List ℕ). front ++ x ++ drop (16 * i + 16) l) k
-            ∙ ap (λ (x : List ℕ). front ++ b ++ x) q
-            ∙ ap (λ (x : List ℕ). x ++ drop (16 * (i + 1)) l₀) (sym n);
-      }
 
 -- ---- the search
 
@@ -159,15 +107,16 @@ module _ (k : Clock) (allowance : ℕ) (entries image : List ℕ) (s : Segment) 
       record {
         answer = m;
         segment = sym (z .1);
-        written = ap (λ (x : List ℕ). x ++ entries) (sym rows-none) ∙ ap (λ (c : ℕ). rows (take c (want .lent)) ++ drop (16 * c) entries) (sym (z .0));
+        bytes = λ q. absurd (omega (arith, q, h));
+        written = ap (λ (x : List ℕ). x ++ entries) (sym (rows-none entryBytes)) ∙ ap (λ (c : ℕ). rows entryBytes (take c (want .lent)) ++ drop (16 * c) entries) (sym (z .0));
         told = λ q. absurd (omega (arith, q, h));
         image-kept = λ _. refl;
         entries-kept = λ _. refl;
         summary-kept = λ _. refl;
       }
 
-  pub search-made : (image₁ entries₁ summary summary₁ : List ℕ) → 0 ≡ outcomeNumber (r .outcome) → imaged image₁ ≡ plainOf (r .segment) → length (r .entries) ≡ mostMeters
-      → entries₁ ≡ rows (take (r .count) (r .entries)) ++ drop (16 * r .count) entries
+  pub search-made : (image₁ entries₁ summary summary₁ : List ℕ) → 0 ≡ outcomeNumber (r .outcome) → IsImage (plainOf (r .segment)) image₁ → length (r .entries) ≡ mostMeters
+      → entries₁ ≡ rows entryBytes (take (r .count) (r .entries)) ++ drop (16 * r .count) entries
       → summary₁ ≡ summaryOf (r .count) (r .probes) (r .spent)
       → Searches want 0 image image₁ entries entries₁ summary summary₁
   search-made image₁ entries₁ summary summary₁ e w l es su =
@@ -176,8 +125,9 @@ module _ (k : Clock) (allowance : ℕ) (entries image : List ℕ) (s : Segment) 
       ∙ take-at (take (r .count) (r .entries)) (drop (r .count) lent) (r .count) (length-take-le (r .count) (r .entries) (omega (arith, f .fits, l))) in
       record {
         answer = e ∙ number-gives;
-        segment = w ∙ segment-gives;
-        written = es ∙ ap (λ (x : List ℕ). x ++ drop (16 * r .count) entries) (ap rows (sym t)) ∙ ap (λ (c : ℕ). rows (take (want .count) (want .lent)) ++ drop (16 * c) entries) count-gives;
+        segment = w .means ∙ segment-gives;
+        bytes = λ _. w .bytes ∙ ap imageOf segment-gives;
+        written = es ∙ ap (λ (x : List ℕ). x ++ drop (16 * r .count) entries) (ap (rows entryBytes) (sym t)) ∙ ap (λ (c : ℕ). rows entryBytes (take (want .count) (want .lent)) ++ drop (16 * c) entries) count-gives;
         told = λ _. su ∙ ap (λ (c : ℕ). summaryOf c (r .probes) (r .spent)) count-gives ∙ ap (λ (c : ℕ). summaryOf (want .count) c (r .spent)) probes-gives ∙ ap (summaryOf (want .count) (want .probes)) spent-gives;
         image-kept = λ h. absurd (omega (arith, h));
         entries-kept = λ h. absurd (omega (arith, h));

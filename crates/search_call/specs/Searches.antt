@@ -4,6 +4,7 @@ use mathlib.Core.Bool.{Bool, true, false}
 use mathlib.Core.List.{List, [], _∷_, _++_}
 use Prim.Native.Nat.{ℕ, _*_, _/_, _<_}
 use lib.ListN.{length, take, drop, replicate}
+use Rattle.laws.specs.Rows.{rows}
 use Rattle.laws.specs.Words.{at, bitIf}
 use Rattle.values.specs.Values.{little}
 use Rattle.clock.specs.declared.Clock.{Clock}
@@ -13,7 +14,7 @@ use Rattle.search.specs.declared.EntryRecord.{EntryRecord}
 use Rattle.search.specs.SearchCall.{Searched, searchCall}
 use Rattle.search.specs.View.{noEntry}
 use Rattle.bus.specs.Plain.{Plain}
-use Rattle.image.specs.Image.{imaged}
+use Rattle.image.specs.Image.{imaged, imageOf}
 
 -- one, mute, many
 abbrev pub kindByte : Kind → ℕ
@@ -27,11 +28,6 @@ entryBytes e =
     let d = e .digits in
     kindByte (e .kind) ∷ at d 0 ∷ at d 1 ∷ at d 2 ∷ at d 3 ∷ at d 4 ∷ at d 5 ∷ at d 6 ∷ at d 7 ∷ (little 4 (e .count) ++ 0 ∷ 0 ∷ 0 ∷ [])
 
--- entries, one behind the other
-unfoldable pub rows : List EntryRecord → List ℕ
-rows [] = []
-rows (e ∷ es) = entryBytes e ++ rows es
-
 -- entries, probes, spent: four bytes each, low byte first
 abbrev pub summaryOf : ℕ → ℕ → Bool → List ℕ
 summaryOf count probes spent = little 4 count ++ little 4 probes ++ little 4 (bitIf spent)
@@ -40,12 +36,13 @@ summaryOf count probes spent = little 4 count ++ little 4 probes ++ little 4 (bi
 unfoldable pub searchBy : Clock → ℕ → List ℕ → Plain → Searched
 searchBy k allowance entries s = searchCall k allowance (replicate (length entries / 16) noEntry) s
 
--- The answer is the search's number, the image means its segment, its entries stand in front of the lent bytes, further ones stay, and the summary is written.
--- Where the number is not 0, every byte of the image, of the entries and of the summary stays.
+-- The answer is the search's number, the image means its segment, its entries stand in front of the lent bytes, further ones stay.
+-- Where the number is 0, the image is that segment's, and the summary is written; else every byte of the image, of the entries and of the summary stays.
 pub record Searches (want : Searched) (number : ℕ) (image image₁ entries entries₁ summary summary₁ : List ℕ) : Type 0 where
   pub answer : number ≡ want .number
   pub segment : imaged image₁ ≡ want .segment
-  pub written : entries₁ ≡ rows (take (want .count) (want .lent)) ++ drop (16 * want .count) entries
+  pub bytes : number ≡ 0 → image₁ ≡ imageOf (want .segment)
+  pub written : entries₁ ≡ rows entryBytes (take (want .count) (want .lent)) ++ drop (16 * want .count) entries
   pub told : number ≡ 0 → summary₁ ≡ summaryOf (want .count) (want .probes) (want .spent)
   pub image-kept : 0 < number → image₁ ≡ image
   pub entries-kept : 0 < number → entries₁ ≡ entries

@@ -192,8 +192,8 @@ pub struct Summary {
 /// A simulated segment.
 ///
 /// It is one image of [`IMAGE`] bytes, which [`as_image`](Segment::as_image) shows and
-/// [`from_image`](Segment::from_image) takes back. Two images may mean the same segment and differ in bytes that are
-/// not in use, so that segments are not compared.
+/// [`from_image`](Segment::from_image) takes back. Segments are equal where their images mean the same: bytes that are
+/// not in use have no part in it, and an origin that is not a number equals itself.
 #[derive(Clone)]
 pub struct Segment {
     image: Box<[u8; IMAGE]>,
@@ -212,7 +212,7 @@ impl Segment {
         Segment { image: Box::new(*image) }
     }
 
-    /// The segment's image, to be kept or handed on.
+    /// The segment's image, to be kept or handed on. Every accepted call writes 0 to the bytes that are not in use.
     pub fn as_image(&self) -> &[u8; IMAGE] {
         &self.image
     }
@@ -284,6 +284,20 @@ impl Segment {
         Ok(Summary { entries, probes: u32::from_le_bytes([p0, p1, p2, p3]), spent: spent != 0 })
     }
 }
+
+impl PartialEq for Segment {
+    fn eq(&self, other: &Self) -> bool {
+        // Where nothing is lent, receive changes nothing, and writes the one image that the segment has.
+        let written = |segment: &Segment| {
+            let mut image = segment.image.clone();
+            ffi::receive(&mut image, &mut []);
+            image
+        };
+        self.image == other.image || written(self) == written(other)
+    }
+}
+
+impl Eq for Segment {}
 
 impl Default for Segment {
     /// [`Segment::new`].

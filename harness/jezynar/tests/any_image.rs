@@ -44,6 +44,13 @@ fn search(segment: &mut Segment, allowance: u32) -> usize {
 fn every_call(image: &[u8; IMAGE]) -> usize {
     let from = || Segment::from_image(image);
     assert!(from().as_image() == image);
+    // A call that changes nothing writes the one image of the segment, and once more the same.
+    let mut written = from();
+    assert_eq!(written.receive(&mut []), 0);
+    assert!(written == from());
+    let kept = written.clone();
+    assert_eq!(written.receive(&mut []), 0);
+    assert!(written.as_image() == kept.as_image());
     let mut entries = search(&mut from(), u32::MAX);
     call(&mut from(), |s| s.send(&TELEGRAMS, &CLOCK));
     call(&mut from(), |s| s.send(&[0xFF; 1024], &CLOCK));

@@ -1,7 +1,7 @@
 //! The segment's calls in use: receiving in pieces, time, threads, copies.
 mod common;
 
-use common::{opened, take, two_water, water, worst_case, CLOCK, NKE_ALL};
+use common::{example, opened, take, two_water, water, worst_case, CLOCK, NKE_ALL};
 use jezynar::frame::{parse, Frame, Parsed};
 use jezynar::list::{self, MeterSpec};
 use jezynar::{Clock, Entry, EntryKind, Segment, IMAGE};
@@ -194,6 +194,34 @@ fn new_default_clone_image_and_debug() {
     assert_eq!(take(&mut copy), [0xE5, 0xE5]);
     kept.send(&NKE_ALL, &CLOCK).unwrap();
     assert_eq!(take(&mut kept), [0xE5, 0xE5]);
+}
+
+#[test]
+fn equal_segments_have_equal_images() {
+    let list = two_water();
+    for origin in [0.0, -0.0, 1.5, f64::INFINITY, f64::NAN] {
+        let mut fresh = Segment::new();
+        fresh.open(&list, 2400, false, origin).unwrap();
+        // The same after another list, with a queue, a part of a telegram and other meters before it.
+        let mut used = opened(&example("mfh30.list"));
+        used.send(&NKE_ALL, &CLOCK).unwrap();
+        used.send(&[0x68, 0x03], &CLOCK).unwrap();
+        assert!(fresh != used);
+        used.open(&list, 2400, false, origin).unwrap();
+        assert!(fresh == used);
+        assert!(fresh.as_image() == used.as_image());
+        // Input that waited, and a queue that was taken, leave nothing.
+        used.send(&NKE_ALL, &CLOCK).unwrap();
+        assert!(fresh != used);
+        assert_eq!(take(&mut used).len(), 2);
+        used.send(&[0x10, 0x40], &CLOCK).unwrap();
+        assert!(fresh != used);
+        used.set_baud(2400).unwrap();
+        assert!(fresh.as_image() == used.as_image());
+    }
+    let mut zero = opened(&list);
+    zero.open(&list, 2400, false, -0.0).unwrap();
+    assert!(zero != opened(&list), "-0 is not 0");
 }
 
 #[test]

@@ -4,8 +4,10 @@ use native.Mathlib.Omega.{arith}
 use lib.Dec.{T}
 use lib.Ieee.{binary64, fits, ofBits}
 use lib.Ieee.Bits.{ofBits-toBits}
+use Rattle.values.specs.Values.{little}
 use Rattle.numbers.specs.Number.{number}
 use Rattle.numbers.proofs.NumberLaws.{number-little}
+use Rattle.image.proofs.HeadLaws.{head-is}
 use borrow.Author.Needs.{needs}
 use Rattle.image.proofs.head_bytes.Statement.{statement}
 use Rattle.image.proofs.head_bytes.Tie as tie
@@ -88,13 +90,21 @@ returns c =
     let e = c .before .before .before in
     let s = e .before .before .before in
     let held : T (fits binary64 (s .args .origin)) = subst T (sym (s .good .1 .0 .1)) tt in
-    record {
-      baud-at = ap (number 4 0) (e .before .before .le4 .ensures) ∙ number-little 4 (s .args .baud) (search needs);
-      origin-at = ap (ofBits binary64) (e .eight-bytes .ensures ∙ e .before .f64-bits .ensures) ∙ ofBits-toBits binary64 (s .args .origin) held;
-      count-at = ap (number 2 0) (c .before .before .le2 .ensures) ∙ number-little 2 (s .args .count) (search needs);
-      waiting-at = ap (number 2 0) (c .before .le22 .ensures) ∙ number-little 2 (s .args .waiting) (search needs);
-      queued-at = ap (number 2 0) (c .le23 .ensures) ∙ number-little 2 (s .args .queued) (search needs);
-    }
+    let baud = e .before .before .le4 .ensures in
+    let bits = e .before .f64-bits .ensures in
+    let origin = e .eight-bytes .ensures in
+    let count = c .before .before .le2 .ensures in
+    let waiting = c .before .le22 .ensures in
+    let queued = c .le23 .ensures in (
+      head-is (s .args .baud) (s .args .origin) (s .args .count) (s .args .waiting) (s .args .queued) _ _ _ _ _ baud (origin ∙ ap (little 8) bits) count waiting queued,
+      record {
+        baud-at = ap (number 4 0) baud ∙ number-little 4 (s .args .baud) (search needs);
+        origin-at = ap (ofBits binary64) (ap (number 8 0) origin ∙ number-little 8 (e .before .f64-bits .result) (search needs) ∙ bits) ∙ ofBits-toBits binary64 (s .args .origin) held;
+        count-at = ap (number 2 0) count ∙ number-little 2 (s .args .count) (search needs);
+        waiting-at = ap (number 2 0) waiting ∙ number-little 2 (s .args .waiting) (search needs);
+        queued-at = ap (number 2 0) queued ∙ number-little 2 (s .args .queued) (search needs);
+      },
+    )
 
 pub head-bytes-spec : {M : Type 1} → statement M
 head-bytes-spec =

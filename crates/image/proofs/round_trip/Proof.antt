@@ -14,7 +14,7 @@ read-image-requires : tie.Need-read-image-requires
 read-image-requires c κs = search needs
 
 returns : tie.Need-returns
-returns c = c .read-image .ensures ∙ c .before .before .write-image .ensures
+returns c = c .read-image .ensures ∙ c .before .before .write-image .ensures .means
 
 pub round-trip-spec : {M : Type 1} → statement M
 round-trip-spec =

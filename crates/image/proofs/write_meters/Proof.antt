@@ -11,7 +11,7 @@ use Rattle.image.proofs.write_meters.Statement.{statement}
 use Rattle.image.proofs.write_meters.Tie as tie
 
 abbrev Inv-loop : tie.InvT-loop
-Inv-loop count bs₀ ms i₀ bs i = (i ≤ count) × (count ≤ capacity) × (length bs₀ ≡ 25 * capacity) × (length bs ≡ length bs₀) × (length ms ≡ capacity) × Put ms i bs
+Inv-loop count bs₀ ms i₀ bs i = (i ≤ count) × (count ≤ capacity) × (length bs₀ ≡ 25 * capacity) × (length bs ≡ length bs₀) × (length ms ≡ capacity) × Put ms bs₀ i bs
 
 abbrev μ-loop : tie.MeasureT-loop
 μ-loop count bs₀ ms i₀ bs i = count - i
@@ -51,13 +51,14 @@ loop-again c =
     let b = c .before .before .before .before .before .meter-bytes .result in
     let w : length b ≡ 25 = search needs in
     let h : 25 * at .i + 25 ≤ length (at .bs) = omega arith in
+    let said = c .before .before .before .before .before .meter-bytes .ensures in
     let e = c .before .before .copy .ensures in (
       omega arith,
       inv .1,
       inv .2,
       ap length e ∙ length-paste (at .bs) (25 * at .i) b 25 h (omega arith) ∙ inv .3,
       inv .4,
-      subst (Put _ (at .i + 1)) (sym e) (put-more b _ (inv .5) (omega arith) h w (c .before .before .before .before .before .meter-bytes .ensures)),
+      subst (Put _ _ (at .i + 1)) (sym e) (put-more b _ (inv .5) (omega arith) h (said .0) (said .1)),
     )
 
 same-length : tie.Need-same-length Inv-loop μ-loop

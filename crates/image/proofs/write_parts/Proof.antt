@@ -1,12 +1,17 @@
 -- `image::write_parts` meets its contract. Assumes nothing.
-use mathlib.Core.Path.{_≡_, sym, _∙_}
-use Prim.Native.Nat.{_-_, _*_}
+use mathlib.Core.Path.{_≡_, sym, ap, _∙_}
+use mathlib.Core.List.{List, _++_, map}
+use Prim.Native.Nat.{ℕ, _-_, _*_}
 use native.Mathlib.Omega.{arith}
-use lib.ListN.{length, drop}
+use lib.ListN.{length, take, drop, replicate}
+use Rattle.laws.specs.Rows.{rows}
 use Rattle.laws.proofs.Sweep.{length-mapped}
+use Rattle.meter.specs.View.{plainMeter}
+use Rattle.meter_image.specs.MeterBytes.{meterBytes}
 use Rattle.scenarios.specs.Opening.{capacity}
-use Rattle.image.proofs.Blocks.{length-rest}
-use Rattle.image.proofs.Whole.{copies}
+use Rattle.image.proofs.Blocks.{rest, nothing-left, length-rest}
+use Rattle.image.proofs.Whole.{Copies, copies}
+use Rattle.image.proofs.Exact.{exact}
 use borrow.Author.Needs.{needs}
 use Rattle.image.proofs.write_parts.Statement.{statement}
 use Rattle.image.proofs.write_parts.Tie as tie
@@ -51,7 +56,7 @@ copy-requires-2 c κs =
     let f = c .before .before .before .before in
     let s = f .before .before .before .before .before .before .before .before .before .before .before in
     let e : length (f .copy .last .1 .1 .1 .0) ≡ length (s .args .bs .now) = f .copy .kept .1 .1 .1 .0 in
-    (omega (arith, long-input s, f .before .before .before .before .before .before .before .before .least2 .ensures), omega (arith, s .pre, e, f .before .before .before .before .before .before .before .before .least2 .ensures))
+    (omega (arith, long-input s, f .before .before .before .before .before .before .before .before .least2 .ensures), omega (arith, s .pre .0, e, f .before .before .before .before .before .before .before .before .least2 .ensures))
 
 slice-aggregate-copy-3 : tie.Need-slice-aggregate-copy-3
 slice-aggregate-copy-3 c = sym (long-queue (c .before .before .before .before .before .before .before .before .before .before .before .before .before .before .before .before .before .before .before))
@@ -63,7 +68,7 @@ copy-requires-3 c κs =
     let s = f .before .before .before .before .before .before .before .before .before .before .before in
     let e : length (f .copy .last .1 .1 .1 .0) ≡ length (s .args .bs .now) = f .copy .kept .1 .1 .1 .0 in
     let d : length (g .copy2 .last .1 .1 .1 .0) ≡ length (f .copy .last .1 .1 .1 .0) = g .copy2 .kept .1 .1 .1 .0 in
-    (omega (arith, long-queue s, f .before .before .before .before .before .before .before .least3 .ensures), omega (arith, s .pre, e, d, f .before .before .before .before .before .before .before .least3 .ensures))
+    (omega (arith, long-queue s, f .before .before .before .before .before .before .before .least3 .ensures), omega (arith, s .pre .0, e, d, f .before .before .before .before .before .before .before .least3 .ensures))
 
 sub-write-meters : tie.Need-sub-write-meters
 sub-write-meters c = search needs
@@ -84,7 +89,7 @@ write-meters-requires c κs =
     let e : length (f .copy .last .1 .1 .1 .0) ≡ length (s .args .bs .now) = f .copy .kept .1 .1 .1 .0 in
     let d : length (g .copy2 .last .1 .1 .1 .0) ≡ length (f .copy .last .1 .1 .1 .0) = g .copy2 .kept .1 .1 .1 .0 in
     let b : length (h .copy3 .last .1 .1 .1 .0) ≡ length (g .copy2 .last .1 .1 .1 .0) = h .copy3 .kept .1 .1 .1 .0 in
-    (length-rest 4374 (25 * capacity) (h .copy3 .last .1 .1 .1 .0) (omega (arith, s .pre, e, d, b)), omega (arith, f .before .before .before .before .before .before .before .before .before .least .ensures))
+    (length-rest 4374 (25 * capacity) (h .copy3 .last .1 .1 .1 .0) (omega (arith, s .pre .0, e, d, b)), omega (arith, f .before .before .before .before .before .before .before .before .before .least .ensures))
 
 same-length : tie.Need-same-length
 same-length c = search needs
@@ -98,24 +103,33 @@ returns c =
     let f = g .before .before .before .before .before in
     let s = f .before .before .before .before .before .before .before .before .before .before .before in
     let l₃ = h .copy3 .last .1 .1 .1 .0 in
-    copies {l₀ = s .args .bs .now}
-    (record {
+    let long = s .pre .0 in
+    let wrote = m .write-meters .ensures in
+    let n = f .before .before .before .before .before .before .before .before .before .least .result in
+    let made : Copies (s .args .s) _ _ _ _ (s .args .bs .now) _ _ l₃ _ =
+    record {
       count-is = f .before .before .before .before .before .before .before .before .before .least .ensures;
       waiting-is = f .before .before .before .before .before .before .before .before .least2 .ensures;
       queued-is = f .before .before .before .before .before .before .before .least3 .ensures;
       input-long = long-input s;
       queue-long = long-queue s;
       meters-long = long-meters s;
-      long = s .pre;
+      blank = s .pre .1 ∙ ap (λ (n : ℕ). replicate n 0) long;
       head-long = long-head (f .before .before .before .before .before .before);
-      head-is = f .before .before .before .before .before .before .head-bytes .ensures;
+      head-bytes = f .before .before .before .before .before .before .head-bytes .ensures .0;
+      head-is = f .before .before .before .before .before .before .head-bytes .ensures .1;
       first = f .copy .ensures;
       second = g .copy2 .ensures;
       third = h .copy3 .ensures;
       ms-long = m .write-meters .kept .1 .1 .0 ∙ write-meters-requires (m .before) (m .write-meters .lifetimes) .0;
-      last = m .write-meters .ensures;
-    })
-    (drop (length l₃ - 4374) (drop 4374 l₃))
+      rows-are = wrote .0 ∙ ap (λ (l : List ℕ). rows meterBytes (map plainMeter (take n (s .args .s .meters))) ++ drop (25 * n) l) (rest 4374 l₃);
+      last = wrote .1;
+    } in
+    let end = drop (length l₃ - 4374) (drop 4374 l₃) in
+    record {
+      bytes = exact made end (nothing-left 4374 l₃);
+      means = copies made end;
+    }
 
 pub write-parts-spec : {M : Type 1} → statement M
 write-parts-spec =

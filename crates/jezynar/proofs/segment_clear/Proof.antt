@@ -1,6 +1,7 @@
 -- `jezynar::segment_clear` meets its contract. Assumes nothing.
 use mathlib.Core.Path.{ap, _∙_}
 use Rattle.bus.specs.Calls as calls
+use Rattle.jezynar.proofs.ImageLaws.{image-of}
 use borrow.Author.Needs.{needs}
 use Rattle.jezynar.proofs.segment_clear.Statement.{statement}
 use Rattle.jezynar.proofs.segment_clear.Tie as tie
@@ -15,7 +16,7 @@ write-image-requires : tie.Need-write-image-requires
 write-image-requires c κs = search needs
 
 returns : tie.Need-returns
-returns c = c .write-image .ensures ∙ c .before .before .clear .ensures ∙ ap calls.clear (c .before .before .before .read-image .ensures)
+returns c = image-of (c .write-image .ensures) (c .before .before .clear .ensures ∙ ap calls.clear (c .before .before .before .read-image .ensures))
 
 pub segment-clear-spec : {M : Type 1} → statement M
 segment-clear-spec = tie.close (tie.spec read-image-requires clear-requires write-image-requires returns)

@@ -1,5 +1,5 @@
 -- `jezynar::segment_new` meets its contract. Assumes nothing.
-use mathlib.Core.Path.{_∙_}
+use Rattle.jezynar.proofs.ImageLaws.{image-of}
 use borrow.Author.Needs.{needs}
 use Rattle.jezynar.proofs.segment_new.Statement.{statement}
 use Rattle.jezynar.proofs.segment_new.Tie as tie
@@ -11,7 +11,7 @@ write-image-requires : tie.Need-write-image-requires
 write-image-requires c κs = search needs
 
 returns : tie.Need-returns
-returns c = c .write-image .ensures ∙ c .before .before .new .ensures
+returns c = image-of (c .write-image .ensures) (c .before .before .new .ensures)
 
 pub segment-new-spec : {M : Type 1} → statement M
 segment-new-spec = tie.close (tie.spec new-requires write-image-requires returns)

@@ -4,7 +4,7 @@ use native.Mathlib.Omega.{arith}
 use Rattle.scenarios.specs.Opening.{openList}
 use Rattle.refusals.specs.Refusals.{refusalNumber, refusalIndex}
 use Rattle.bus.specs.Calls.{afterOpening}
-use Rattle.image.specs.Image.{imaged}
+use Rattle.image.specs.Image.{imaged, imageOf}
 use Rattle.jezynar.proofs.ImageLaws.{opening-index, number-small, opening-answer, opening-stays}
 use borrow.Author.Needs.{needs}
 use Rattle.jezynar.proofs.segment_open.Statement.{statement}
@@ -32,6 +32,7 @@ returns c =
     record {
       gives = opening-answer (openList (a .list .now) (a .baud) (a .practice)) (refusalNumber r) (refusalIndex r) (n .packed .result) g (number-small r) (n .packed .ensures);
       segment = opening-stays (a .list .now) (a .baud) (a .practice) (a .origin) (imaged (a .image .now)) (refusalNumber r) (refusalIndex r) g (omega (arith, c .if1 .taken, n .packed .ensures));
+      bytes = λ z. absurd (omega (arith, c .if1 .taken, z));
       kept = λ _. refl;
     }
 
@@ -45,9 +46,11 @@ returns-2 c =
     let d = n .before in
     let a = d .before .before .before .before .args in
     let r = d .«open» .result .answer in
+    let opened = d .«open» .ensures .segment ∙ ap (afterOpening (a .list .now) (a .baud) (a .practice) (a .origin)) (d .before .read-image .ensures) in
     record {
       gives = opening-answer (openList (a .list .now) (a .baud) (a .practice)) (refusalNumber r) (refusalIndex r) 0 (d .«open» .ensures .answer) (number-small r) (sym (e .if1 .left) ∙ n .packed .ensures);
-      segment = c .write-image .ensures ∙ d .«open» .ensures .segment ∙ ap (afterOpening (a .list .now) (a .baud) (a .practice) (a .origin)) (d .before .read-image .ensures);
+      segment = c .write-image .ensures .means ∙ opened;
+      bytes = λ _. c .write-image .ensures .bytes ∙ ap imageOf opened;
       kept = λ h. absurd (omega (arith, h));
     }
 

@@ -1,11 +1,5 @@
 -- `image::copying::eight_bytes` meets its contract. Assumes nothing.
-use mathlib.Core.Path.{_≡_, refl, ap, _∙_}
-use mathlib.Core.List.{[], _∷_}
-use Prim.Native.Nat.{_/_, _%_}
-use native.Mathlib.Omega.{arith}
-use Rattle.laws.specs.Words.{at}
-use Rattle.numbers.specs.Number.{number}
-use Rattle.numbers.proofs.NumberLaws.{number-add, number-little}
+use Rattle.image.proofs.HeadLaws.{little-eight}
 use borrow.Author.Needs.{needs}
 use Rattle.image.proofs.copying.eight_bytes.Statement.{statement}
 use Rattle.image.proofs.copying.eight_bytes.Tie as tie
@@ -41,17 +35,7 @@ array-read-t29 : tie.Need-array-read-t29
 array-read-t29 c = search needs
 
 returns : tie.Need-returns
-unfolding number
-returns c =
-    let v = c .before .before .args .v in
-    let low = c .before .le4 .result in
-    let high = c .le42 .result in
-    let r = at low 0 ∷ at low 1 ∷ at low 2 ∷ at low 3 ∷ at high 0 ∷ at high 1 ∷ at high 2 ∷ at high 3 ∷ [] in
-    let l : number 4 0 r ≡ number 4 0 low = refl in
-    let h : number 4 4 r ≡ number 4 0 high = refl in
-    let n : number 4 0 low ≡ v % 4294967296 = ap (number 4 0) (c .before .le4 .ensures) ∙ number-little 4 (v % 4294967296) (search needs) in
-    let m : number 4 0 high ≡ v / 4294967296 = ap (number 4 0) (c .le42 .ensures) ∙ number-little 4 (v / 4294967296) (search needs) in
-    number-add 4 4 0 r ∙ rw (l, h, n, m) (omega arith)
+returns c = little-eight (c .before .before .args .v) _ _ (c .before .le4 .ensures) (c .le42 .ensures)
 
 pub eight-bytes-spec : {M : Type 1} → statement M
 eight-bytes-spec =

@@ -1,7 +1,8 @@
 -- `meter_image::meters::meter_bytes` meets its contract. Assumes nothing.
-use mathlib.Core.Path.{refl}
+use mathlib.Core.Path.{refl, ap, _∙_}
 use Rattle.numbers.specs.Number.{number}
-use Rattle.meter_image.proofs.MeterLaws.{meter-is}
+use Rattle.meter_image.specs.MeterBytes.{flagBy, modelBy, faultBy, lastBy}
+use Rattle.meter_image.proofs.MeterLaws.{meter-is, bytes-are, flag-back, model-back, fault-back, last-back}
 use borrow.Author.Needs.{needs}
 use Rattle.meter_image.proofs.meters.meter_bytes.Statement.{statement}
 use Rattle.meter_image.proofs.meters.meter_bytes.Tie as tie
@@ -79,9 +80,22 @@ returns : tie.Need-returns
 unfolding number
 returns c =
     let b = c .before .before .before .before .before in
-    meter-is _ (b .before .before .before .before .args .m) refl (b .before .before .before .four-bytes .ensures) (b .before .before .two-bytes .ensures) refl refl (c .before .before .before .before .model-byte .ensures)
-    (c .before .before .before .fault-byte .ensures) refl (b .before .four-bytes2 .ensures) (c .before .before .flag-byte .ensures) refl (c .before .last-byte .ensures) refl (b .four-bytes3 .ensures)
-    (c .flag-byte2 .ensures)
+    let m = b .before .before .before .before .args .m in
+    let id = b .before .before .before .four-bytes .ensures in
+    let maker = b .before .before .two-bytes .ensures in
+    let baud = b .before .four-bytes2 .ensures in
+    let seed = b .four-bytes3 .ensures in
+    let model = c .before .before .before .before .model-byte .ensures in
+    let fault = c .before .before .before .fault-byte .ensures in
+    let selected = c .before .before .flag-byte .ensures in
+    let last = c .before .last-byte .ensures in
+    let hearing = c .flag-byte2 .ensures in (
+      bytes-are m _ _ _ _ _ _ _ _ _ (id .0) (maker .0) (baud .0) (seed .0) model fault selected last hearing,
+      meter-is _ m refl (id .1) (maker .1) refl refl
+          (ap modelBy model ∙ model-back (m .model)) (ap faultBy fault ∙ fault-back (m .fault)) refl (baud .1)
+          (ap flagBy selected ∙ flag-back (m .selected)) refl (ap lastBy last ∙ last-back (m .last)) refl (seed .1)
+          (ap flagBy hearing ∙ flag-back (m .hearing)),
+    )
 
 pub meter-bytes-spec : {M : Type 1} → statement M
 meter-bytes-spec =

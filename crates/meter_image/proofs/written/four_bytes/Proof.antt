@@ -10,7 +10,7 @@ le4-requires : tie.Need-le4-requires
 le4-requires c κs = search needs
 
 returns : tie.Need-returns
-returns c = ap (number 4 0) (c .le4 .ensures) ∙ number-little 4 (c .before .args .v) (search needs)
+returns c = (c .le4 .ensures, ap (number 4 0) (c .le4 .ensures) ∙ number-little 4 (c .before .args .v) (search needs))
 
 pub four-bytes-spec : {M : Type 1} → statement M
 four-bytes-spec = tie.close (tie.spec le4-requires returns)

@@ -10,7 +10,7 @@ le2-requires : tie.Need-le2-requires
 le2-requires c κs = search needs
 
 returns : tie.Need-returns
-returns c = ap (number 2 0) (c .le2 .ensures) ∙ number-little 2 (c .before .args .v) (search needs)
+returns c = (c .le2 .ensures, ap (number 2 0) (c .le2 .ensures) ∙ number-little 2 (c .before .args .v) (search needs))
 
 pub two-bytes-spec : {M : Type 1} → statement M
 two-bytes-spec = tie.close (tie.spec le2-requires returns)

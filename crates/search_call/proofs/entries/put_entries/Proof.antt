@@ -8,19 +8,21 @@ use lib.Seq.{length-paste}
 use borrow.Author.Needs.{needs}
 use Rattle.scenarios.specs.Opening.{mostMeters}
 use Rattle.laws.proofs.Sweep.{length-mapped}
-use Rattle.search_call.specs.Searches.{rows}
-use Rattle.search_call.proofs.SearchLaws.{Rows, rows-begin, rows-more}
+use Rattle.laws.specs.Rows.{rows}
+use Rattle.laws.proofs.Rows.{Rows, rows-begin, rows-more}
+use Rattle.search_call.specs.Searches.{entryBytes}
+use Rattle.search_call.proofs.SearchLaws.{length-entry}
 use Rattle.search_call.proofs.entries.put_entries.Statement.{statement}
 use Rattle.search_call.proofs.entries.put_entries.Tie as tie
 
 abbrev Inv-loop : tie.InvT-loop
-Inv-loop count lent₀ found i₀ lent i = (i ≤ count) × (count ≤ mostMeters) × (16 * count ≤ length lent₀) × (length lent ≡ length lent₀) × (length found ≡ mostMeters) × Rows found lent₀ i lent
+Inv-loop count lent₀ found i₀ lent i = (i ≤ count) × (count ≤ mostMeters) × (16 * count ≤ length lent₀) × (length lent ≡ length lent₀) × (length found ≡ mostMeters) × Rows entryBytes 16 found lent₀ i lent
 
 abbrev μ-loop : tie.MeasureT-loop
 μ-loop count lent₀ found i₀ lent i = count - i
 
 loop-holds : tie.Need-loop-holds Inv-loop μ-loop
-loop-holds c = (omega arith, omega arith, omega arith, refl, search (needs, length-mapped), rows-begin)
+loop-holds c = (omega arith, omega arith, omega arith, refl, search (needs, length-mapped), rows-begin entryBytes 16 length-entry)
 
 mul-e : tie.Need-mul-e Inv-loop μ-loop
 mul-e c = omega arith
@@ -62,7 +64,7 @@ loop-again c =
       inv .2,
       ap length e ∙ length-paste (at .lent) (16 * at .i) b 16 h (omega arith) ∙ inv .3,
       inv .4,
-      subst (Rows _ _ (at .i + 1)) (sym e) (rows-more (inv .5) b _ (omega arith) (c .before .before .before .before .before .entry-bytes .ensures)),
+      subst (Rows entryBytes 16 _ _ (at .i + 1)) (sym e) (rows-more entryBytes 16 length-entry (inv .5) b _ (omega arith) (c .before .before .before .before .before .entry-bytes .ensures)),
     )
 
 same-length : tie.Need-same-length Inv-loop μ-loop
@@ -73,7 +75,7 @@ returns c =
     let at = c .before .loop in
     let a = c .before .before .before .args in
     let e : at .i ≡ a .count = omega arith in
-    at .inv .5 .is ∙ ap (λ (n : ℕ). rows (take n (a .t1)) ++ drop (16 * n) (a .lent .now)) e
+    at .inv .5 .is ∙ ap (λ (n : ℕ). rows entryBytes (take n (a .t1)) ++ drop (16 * n) (a .lent .now)) e
 
 pub put-entries-spec : {M : Type 1} → statement M
 put-entries-spec =
