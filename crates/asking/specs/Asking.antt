@@ -20,7 +20,7 @@ parts Fixed = 1
 abbrev pub nextPart : Model → ℕ → ℕ
 nextPart model part = (part + 1) % parts model
 
--- "No last FCB: part 0; changed: next part; equal: same part"
+-- "No last FCB: part 0; changed: next part (Heat has two); equal: same part, built afresh."
 abbrev pub partNow : Model → LastFcb → Bool → ℕ → ℕ
 partNow model Never fcb part = 0
 partNow model Clear false part = part
@@ -33,7 +33,7 @@ abbrev pub fcbNow : Bool → LastFcb
 fcbNow true = Set
 fcbNow false = Clear
 
--- "the third and later readouts since opening": a too_many meter counts, and "the readout count stops at 3"
+-- "the third and later readouts since opening": a too_many meter counts. "The readout count stops at 3"
 abbrev pub readoutsNow : Fault → ℕ → ℕ
 readoutsNow None n = n
 readoutsNow Checksum n = n
@@ -43,7 +43,7 @@ readoutsNow WrongAddress n = n
 readoutsNow Flaky n = n
 readoutsNow TooMany n = min 3 (n + 1)
 
--- the meter that answers a REQ_UD2: part and last FCB; "then comes, raised by one, an access number that goes from 255 back to 0"; its readouts
+-- the meter that answers a REQ_UD2: part and last FCB. "Then comes, raised by one, an access number that goes from 255 back to 0"; its readouts
 unfoldable pub asked : Bool → PlainMeter → PlainMeter
 asked fcb m =
     with m (reached m) (m .selected)

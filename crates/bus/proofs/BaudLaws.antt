@@ -1,7 +1,7 @@
 -- A baud change, refused or not.
+use mathlib.Core.List.{[]}
 use mathlib.Core.Path.{_≡_, sym}
 use mathlib.Core.Bool.{Bool, true, false, not}
-use mathlib.Core.List.{[]}
 use Prim.Native.Nat.{ℕ}
 use borrow.Author.Tests.{not-true, not-false}
 use Rattle.meter.specs.Meter.{rates}

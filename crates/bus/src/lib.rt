@@ -2,7 +2,7 @@
 ghost use mathlib.Core.Path.{_≡_};
 ghost use Rattle.bus.specs.Plain.{blank};
 ghost use Rattle.bus.specs.Calls;
-ghost use Rattle.bus.specs.View.{plainOf, receivedOf, changedOf, Opens};
+ghost use Rattle.bus.specs.View.{plainOf, receivedOf, changingNumber, changedOf, Opens};
 use laws::least;
 use meter::Meter;
 use refusals::Refusal;
@@ -129,6 +129,15 @@ pub fn clear(segment: Segment) -> Segment
 pub enum Changing {
     Accepted,
     NoRate,
+}
+
+pub fn changing_number(answer: Changing) -> u32
+    ensures { λ r. ⌜ r ≡ changingNumber answer ⌝ }
+{
+    match answer {
+        Changing::Accepted => 0,
+        Changing::NoRate => 10,
+    }
 }
 
 pub struct Changed {

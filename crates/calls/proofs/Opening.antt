@@ -28,14 +28,14 @@ use Rattle.bus.proofs.Opened.Laws as opened-laws
 use Rattle.bus.proofs.open as open-contract
 use Rattle.bus.proofs.open.Symbol.{routine as open-routine}
 use Rattle.bus.proofs.open.Met as open-met
-use Rattle.calls.specs.Fit.{Bytes, Word, Double}
+use Rattle.calls.specs.Fit.{LentBytes, Word, Double}
 use Rattle.calls.specs.Made.{withBytes, lentAt}
 use Rattle.calls.proofs.Machine.{said}
 use Rattle.calls.proofs.Slices.{refTo, Token, SharedAt, shared-slice}
 use Rattle.calls.proofs.Arguments.{one, Held, held-by, segment-own, word-own, flag-own, double-own, holds-bytes, none, both, before, after, entry}
 
 module _ {M : Type 1} (𝓤 : URA M) (H : Heap 𝓤) (𝓜 : Model 𝓤 H) (𝓖 : GhostRules 𝓤 H) (𝓡 : Running 𝓤 H 𝓜) where
-  pub open-ends : (st : Segment) → Held st → (list : List ℕ) → Bytes list → (bus : ℕ) → Word bus → (practice : Bool) (origin : Float) → Double origin → (σ : Memory) (G : SProp 𝓤) → Satisfies 𝓤 H 𝓜 σ G
+  pub open-ends : (st : Segment) → Held st → (list : List ℕ) → LentBytes list → (bus : ℕ) → Word bus → (practice : Bool) (origin : Float) → Double origin → (σ : Memory) (G : SProp 𝓤) → Satisfies 𝓤 H 𝓜 σ G
       → ∥ ((r : Opened) × (σ′ : Memory) × ends open-routine (segment-laws.lowered st ∷ lentAt σ (length list) ∷ vint w32 bus ∷ vbool practice ∷ vfloat binary64 origin ∷ []) (withBytes σ list) (opened-laws.lowered r) σ′ × Held (r .segment) × Opens list bus practice origin (plainOf st) r × Satisfies 𝓤 H 𝓜 σ′ G) ∥₁
   open-ends st held list fit bus fb practice origin fo σ G s =
       let φ : Opened → Type 0 = λ r. Opens list bus practice origin (plainOf st) r in

@@ -32,7 +32,7 @@ use Rattle.bus.proofs.Received.Laws as received-laws
 use Rattle.bus.proofs.receive as receive-contract
 use Rattle.bus.proofs.receive.Symbol.{routine as receive-routine}
 use Rattle.bus.proofs.receive.Met as receive-met
-use Rattle.calls.specs.Fit.{Bytes}
+use Rattle.calls.specs.Fit.{LentBytes}
 use Rattle.calls.specs.Lent.{Loads}
 use Rattle.calls.specs.Made.{withBytes, lentAt}
 use Rattle.calls.proofs.Blocks.{loads}
@@ -40,7 +40,7 @@ use Rattle.calls.proofs.Slices.{refTo, Token, LentAt, lent-slice}
 use Rattle.calls.proofs.Arguments.{one, Held, held-by, segment-own, holds-bytes, none, before, after, entry}
 
 module _ {M : Type 1} (𝓤 : URA M) (H : Heap 𝓤) (𝓜 : Model 𝓤 H) (𝓖 : GhostRules 𝓤 H) (𝓡 : Running 𝓤 H 𝓜) where
-  pub receive-ends : (st : Segment) → Held st → (lent : List ℕ) → Bytes lent → (σ : Memory) (G : SProp 𝓤) → Satisfies 𝓤 H 𝓜 σ G
+  pub receive-ends : (st : Segment) → Held st → (lent : List ℕ) → LentBytes lent → (σ : Memory) (G : SProp 𝓤) → Satisfies 𝓤 H 𝓜 σ G
       → ∥ ((r : Received) × (ys : List ℕ) × (σ′ : Memory) × ends receive-routine (segment-laws.lowered st ∷ lentAt σ (length lent) ∷ []) (withBytes σ lent) (received-laws.lowered r) σ′ × Held (r .segment) × (receivedOf r ys ≡ receive lent (plainOf st)) × Loads (tyInt w8) (vint w8) σ′ (length σ) 0 ys × Satisfies 𝓤 H 𝓜 σ′ G) ∥₁
   receive-ends st held lent fit σ G s =
       ∥∥₁-elim (holds-bytes 𝓤 H 𝓜 𝓖 𝓡 σ G s lent (fit .0)) ∥∥₁-prop (λ there.

@@ -30,14 +30,14 @@ use Rattle.send.proofs.Sent.Laws as sent-laws
 use Rattle.send.proofs.send as send-contract
 use Rattle.send.proofs.send.Symbol.{routine as send-routine}
 use Rattle.send.proofs.send.Met as send-met
-use Rattle.calls.specs.Fit.{Bytes, FitClock}
+use Rattle.calls.specs.Fit.{LentBytes, FitClock}
 use Rattle.calls.specs.Made.{withBytes, lentAt}
 use Rattle.calls.proofs.Machine.{said}
 use Rattle.calls.proofs.Slices.{refTo, Token, SharedAt, shared-slice}
 use Rattle.calls.proofs.Arguments.{one, Held, held-by, segment-own, clock-own, holds-bytes, none, both, before, after, entry}
 
 module _ {M : Type 1} (𝓤 : URA M) (H : Heap 𝓤) (𝓜 : Model 𝓤 H) (𝓖 : GhostRules 𝓤 H) (𝓡 : Running 𝓤 H 𝓜) where
-  pub send-ends : (st : Segment) → Held st → (piece : List ℕ) → Bytes piece → (k : Clock) → FitClock k → (σ : Memory) (G : SProp 𝓤) → Satisfies 𝓤 H 𝓜 σ G
+  pub send-ends : (st : Segment) → Held st → (piece : List ℕ) → LentBytes piece → (k : Clock) → FitClock k → (σ : Memory) (G : SProp 𝓤) → Satisfies 𝓤 H 𝓜 σ G
       → ∥ ((r : Sent) × (σ′ : Memory) × ends send-routine (segment-laws.lowered st ∷ lentAt σ (length piece) ∷ clock-laws.lowered k ∷ []) (withBytes σ piece) (sent-laws.lowered r) σ′ × Held (r .segment) × (sentOf r ≡ send piece k (plainOf st)) × Satisfies 𝓤 H 𝓜 σ′ G) ∥₁
   send-ends st held piece fit k fk σ G s =
       let φ : Sent → Type 0 = λ r. sentOf r ≡ send piece k (plainOf st) in

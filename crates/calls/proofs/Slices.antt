@@ -1,7 +1,6 @@
 -- A call that is lent one slice, `&[T]` or `&mut [T]`, beside arguments by value. For any function and any T; it says nothing of this program.
 --     shared-slice     the values of a block are lent as a `&[T]`: the routine comes to its end, and the contract's promise is a plain fact of the result
 --     lent-slice       the values of a block are lent as a `&mut [T]`: the same, and the block then has the values that the promise speaks of
--- Assumes nothing.
 use mathlib.Core.Logic.{∥∥₁-prop, ∥∥₁-elim, ∥∥₁-map}
 use mathlib.Core.List.{List, [], _∷_}
 use Prim.Native.Nat.{ℕ}

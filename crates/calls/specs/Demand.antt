@@ -51,7 +51,7 @@ pub record Found (k : Clock) (allowance : ℕ) (lent : List EntryRecord) (s : Pl
   pub loaded : RecordsIn σ b records
   -- refused or not: its number, count, probes, spent, lent records and segment are those of the search call over s
   pub given : searchedOf answer records ≡ searchCall k allowance lent s
-  -- not refused: they are those of the walk over s; its price, when it is spent, its entries, their order, each meter in exactly one of them, and the bound are 01's
+  -- not refused: they are those of the walk over s; its price, when it is spent, its entries, their order, each meter in exactly one of them, and the bound
   pub demanded : (searchCall k allowance lent s) .number ≡ 0 → Demanded allowance lent s (wholeWalk k allowance s) (searchedOf answer records)
 
 -- "Demand 3's lists begin with an opening, accepted or not". The plain segment s is fed the calls' arguments alone; `blank` is the segment that a refused first opening gives.

@@ -23,8 +23,8 @@ Double x = fits binary64 x ≡ true
 abbrev pub Room : ℕ → ℕ → Type 0
 Room count each = (count < 2 ^ 64) × (count * each < 2 ^ 63)
 
-abbrev pub Bytes : List ℕ → Type 0
-Bytes bs = Every Byte bs × Room (length bs) 1
+abbrev pub LentBytes : List ℕ → Type 0
+LentBytes bs = Every Byte bs × Room (length bs) 1
 
 abbrev pub FitClock : Clock → Type 0
 FitClock k = Double (k .now) × (Word (k .year) × (Word (k .month) × (Word (k .day) × (Word (k .hour) × Word (k .minute)))))
@@ -37,9 +37,9 @@ abbrev pub Records : List EntryRecord → Type 0
 Records es = Every FitRecord es × Room (length es) 16
 
 abbrev pub FitCall : Call → Type 0
-FitCall (opening list bus practice origin) = Bytes list × (Word bus × Double origin)
-FitCall (sending piece k) = Bytes piece × FitClock k
-FitCall (receiving lent) = Bytes lent
+FitCall (opening list bus practice origin) = LentBytes list × (Word bus × Double origin)
+FitCall (sending piece k) = LentBytes piece × FitClock k
+FitCall (receiving lent) = LentBytes lent
 FitCall clearing = Unit {0}
 FitCall (changing baud) = Word baud
 FitCall (searching k allowance lent) = FitClock k × (Word allowance × Records lent)

@@ -1,4 +1,4 @@
--- What `Dates.antt` says, held to the examples of 01. Assumes nothing.
+-- What `Dates.antt` says, held to the examples of 01.
 use mathlib.Core.Path.{_≡_, refl}
 use mathlib.Core.List.{[], _∷_}
 use Rattle.dates.specs.Dates.{typeG, typeF}

@@ -1,8 +1,7 @@
 -- Laws in the shape that code needs: the sum byte by byte, and parse case by case.
 use mathlib.Core.Path.{_≡_, refl, sym, ap, _∙_}
 use mathlib.Core.List.{List, [], _∷_, _++_}
-use Prim.Native.Nat.{ℕ, zero, suc, _+_, _-_, _%_, _^_, _≤_, _<_, min}
-use native.Mathlib.Nat.{min-zero, zero-min, suc-min-suc}
+use Prim.Native.Nat.{ℕ, _+_, _-_, _%_, _^_, _≤_, _<_}
 use native.Mathlib.Omega.{arith}
 use lib.Dec.{eqb}
 use borrow.Author.Tests.{lt-ltb, le-ltb, eq-eqb, ne-eqb}
@@ -10,7 +9,6 @@ use lib.ListN.{length, take, drop, length-drop}
 use lib.Seq.{take-suc, length-take-le}
 use native.Mathlib.Numerals.{add-one}
 use Rattle.laws.specs.Words.{if_then_else_, at}
-use Rattle.laws.proofs.Copy.{take-min}
 use Rattle.frame.specs.declared.Outcome.{Outcome}
 use Rattle.frame.specs.View.{dataAt, parsedOf, lengthTold, dataLength, Finds}
 use Rattle.frame.specs.Frame.{ack, long, checksum, stop, header, badLength, start, Parsed, complete, incomplete, invalid, added, sum, parseShort, parseBody, parseLong, parse}
@@ -113,17 +111,3 @@ long-whole bs l h e f = sym (whole-body bs l h ∙ parseBody-is l bs e f)
 -- and all of its data are there
 pub whole-data : (bs : List ℕ) (l : ℕ) → Whole bs l → l - 3 ≡ length (dataAt bs (l - 3))
 whole-data bs l h = sym (length-take-le (l - 3) (drop 7 bs) (omega (arith, length-drop 7 bs)))
-
--- ---- the data, cut where the bytes end
-
-drop-min : (n : ℕ) (xs : List ℕ) → drop (min n (length xs)) xs ≡ drop n xs
-drop-min zero xs = rw zero-min
-drop-min (suc n) [] = rw min-zero
-drop-min (suc n) (x ∷ xs) = rw suc-min-suc (drop-min n xs)
-
-pub data-part : (s : List ℕ) (len from n : ℕ) → from ≡ min 7 (length s) → n ≡ min len (length s - from) → take (from + n - from) (drop from s) ≡ dataAt s len
-data-part s len from n e f =
-    let g : from + n - from ≡ n = omega arith in
-    let h : drop from s ≡ drop 7 s = ap (λ k. drop k s) e ∙ drop-min 7 s in
-    let i : n ≡ min len (length (drop 7 s)) = f ∙ ap (min len) (sym (length-drop from s) ∙ ap length h) in
-    ap (λ k. take k (drop from s)) g ∙ ap (take n) h ∙ ap (λ k. take k (drop 7 s)) i ∙ take-min len (drop 7 s)

@@ -1,14 +1,14 @@
 -- A written telegram is parsed to itself, and a parsed one is written back to the same bytes.
-use mathlib.Core.Path.{_≡_, refl, sym, ap, ap₂, _∙_}
+use mathlib.Core.Path.{_≡_, refl, sym, ap, _∙_}
 use mathlib.Core.Bool.{Bool, true, false, _&&_, not}
 use mathlib.Core.List.{List, [], _∷_, _++_, append-assoc}
-use Prim.Native.Nat.{ℕ, zero, suc, _+_, _-_, _%_, _≤_, _<_}
+use Prim.Native.Nat.{ℕ, suc, _+_, _-_, _≤_, _<_}
 use native.Mathlib.Omega.{arith}
 use lib.Dec.{eqb, ltb}
-use borrow.Author.Tests.{le-ltb, lt-ltb, eq-eqb, ne-eqb, eqb-true, eqb-false, ltb-false, not-true, not-false}
-use lib.ListN.{length, take, drop, getD, length-append}
+use borrow.Author.Tests.{le-ltb, lt-ltb, eq-eqb, ne-eqb, eqb-true, ltb-false}
+use lib.ListN.{length, take, drop, length-append}
 use native.Mathlib.Numerals.{add-one}
-use lib.Seq.{take-append-seam, getD-append-seam, getD-append-add, take-at, take-add, drop-cons, length-take-le}
+use lib.Seq.{take-append-seam, getD-append-seam, getD-append-add, take-add, drop-cons, length-take-le}
 use Rattle.laws.proofs.Lists.{and-l, and-r}
 use Rattle.laws.specs.Words.{if_then_else_, at}
 use Rattle.frame.specs.Frame.{Telegram, ack, short, long, Why, checksum, stop, header, badLength, start, Parsed, complete, incomplete, invalid, sum, parseShort, parseBody, parseLong, parse, encode}

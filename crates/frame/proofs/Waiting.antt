@@ -1,17 +1,14 @@
 -- An incomplete telegram is at most 260 bytes long.
-use mathlib.Core.Path.{_≡_, refl, sym, ap, _∙_}
+use mathlib.Core.Path.{_≡_, refl}
 use mathlib.Core.Bool.{Bool, true, false, _&&_, not}
-use mathlib.Core.List.{List, [], _∷_, _++_}
-use Prim.Native.Nat.{ℕ, zero, suc, _+_, _-_, _≤_, _<_}
+use mathlib.Core.List.{List, [], _∷_}
+use Prim.Native.Nat.{ℕ, _+_, _-_, _≤_, _<_}
 use native.Mathlib.Omega.{arith}
 use lib.Dec.{eqb, ltb}
 use borrow.Author.Tests.{ltb-true}
 use lib.ListN.{length, take, drop}
-use Rattle.laws.specs.Words.{if_then_else_, at, Every}
-use Rattle.frame.specs.Frame.{Telegram, ack, short, long, Why, checksum, stop, header, badLength, start, Parsed, complete, incomplete, invalid, sum, parseShort, parseBody, parseLong, parse}
-
-abbrev pub Bytes : List ℕ → Type 0
-Bytes bs = Every (λ b. b < 256) bs
+use Rattle.laws.specs.Words.{if_then_else_, at, Bytes}
+use Rattle.frame.specs.Frame.{Telegram, ack, short, long, Why, checksum, stop, header, badLength, start, complete, incomplete, invalid, sum, parseShort, parseBody, parseLong, parse}
 
 pub never : {A : Type 0} (t : Telegram) (n : ℕ) → complete t n ≡ incomplete → A
 never t n e = let z : _≡_ {A = ℕ} 0 1 = cc in absurd (omega arith)

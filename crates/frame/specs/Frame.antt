@@ -46,7 +46,7 @@ pub data Parsed : Type 0 where
   incomplete : Parsed
   invalid : Why → Parsed
 
--- short: short of 5 bytes incomplete; checksum, stop
+-- short: under 5 bytes incomplete; checksum, stop
 unfoldable pub parseShort : List ℕ → Parsed
 parseShort bs =
     if ltb (length bs) 5 then incomplete else
@@ -61,7 +61,7 @@ parseBody l bs =
     if not (eqb (at bs (5 + l)) 0x16) then invalid stop else
     complete (long (at bs 4) (at bs 5) (at bs 6) (take (l - 3) (drop 7 bs))) (l + 6)
 
--- long: short of 4 bytes incomplete; header, length below 3, incomplete, and the rest
+-- long: under 4 bytes incomplete; header, length below 3, incomplete, and the rest
 unfoldable pub parseLong : List ℕ → Parsed
 parseLong bs =
     if ltb (length bs) 4 then incomplete else

@@ -48,7 +48,7 @@ pub enum Outcome {
     Invalid(Why),
 }
 
-// The data bytes of an ACK and of a short telegram.
+// How many data bytes an ACK and a short telegram have: `parse` gives a number for every telegram.
 const ACK_DATA: usize = 0;
 
 const SHORT_DATA: usize = 0;

@@ -1,32 +1,22 @@
 -- The program's fresh meter is the plain one: the id's nibbles are its digits.
-use mathlib.Core.Path.{_≡_, refl, ap₂}
+use mathlib.Core.Path.{_≡_, refl}
 use mathlib.Core.Bool.{Bool, true, false}
 use lib.Dec.{eqb}
-use mathlib.Core.List.{List, _∷_}
-use Prim.Native.Nat.{ℕ, _-_, _<_}
+use mathlib.Core.List.{List}
+use Prim.Native.Nat.{ℕ, _-_}
 use native.Mathlib.Omega.{arith}
-use Rattle.laws.specs.Words.{if_then_else_, Every}
+use Rattle.laws.proofs.Lists.{every-map}
+use Rattle.identity.proofs.IdentityLaws.{nibbles-back}
+use Rattle.laws.specs.Words.{if_then_else_}
 use Rattle.identity.specs.Identity.{inBase, digitsOf}
 use Rattle.meter.specs.View.{plainMeter}
 use Rattle.meter_list.specs.Layout.{Listed}
-use Rattle.rules.specs.Check.{textDigits, check}
+use Rattle.rules.specs.Check.{check}
 use Rattle.rules.specs.declared.OwnBaud.the-variants.{AsBus, Own}
 use Rattle.fresh_meter.specs.Fresh.{otherThanBus, ownBaud, seedOf, fresh}
 use Rattle.rules.specs.Checked.{ownOf, valuesOf}
 use Rattle.fresh_meter.specs.FreshOf.{baudFrom, freshOf}
-use Rattle.rules.proofs.CheckLaws.{eight}
 use Rattle.fresh_meter.proofs.IdLaws.{EightDigits, goodId-digits, check-id}
-
-list-same : {x y : ℕ} {xs ys : List ℕ} → x ≡ y → xs ≡ ys → x ∷ xs ≡ y ∷ ys
-list-same p q = ap₂ (λ x xs. x ∷ xs) p q
-
--- eight nibbles, taken out of their number again
-pub nibbles-back : (ds : List ℕ) → EightDigits ds → digitsOf (inBase 16 ds) ≡ ds
-unfolding digitsOf inBase
-nibbles-back ds (l, e) = eight (λ ds. Every (λ d. d < 10) ds → digitsOf (inBase 16 ds) ≡ ds)
-    (λ a b c d e f g h k.
-    list-same (omega arith) (list-same (omega arith) (list-same (omega arith) (list-same (omega arith) (list-same (omega arith) (list-same (omega arith) (list-same (omega arith) (list-same (omega arith) refl))))))))
-    ds l e
 
 -- the own baud that a record's number stands for
 pub baud-from : (bus : ℕ) (practice : Bool) (own : ℕ) → baudFrom bus practice (ownOf own) ≡ ownBaud bus practice own
@@ -37,6 +27,10 @@ baud-from bus practice own = go (eqb own 0)
     go true = refl
     go false = refl
 
+-- an id's digits, taken out of its number again
+id-back : {ds : List ℕ} → EightDigits ds → digitsOf (inBase 16 ds) ≡ ds
+id-back {ds} (l, e) = nibbles-back ds l (every-map (λ d h. omega arith) ds e)
+
 pub fresh-plain : (bus : ℕ) (practice : Bool) (r : Listed) → check r ≡ 0 → plainMeter (freshOf bus practice (valuesOf r)) ≡ fresh bus practice r
 unfolding freshOf valuesOf fresh seedOf
-fresh-plain bus practice r h = rw (nibbles-back (textDigits (r .id)) (goodId-digits (r .id) (check-id r h)), baud-from bus practice (r .baud))
+fresh-plain bus practice r h = rw (id-back (goodId-digits (r .id) (check-id r h)), baud-from bus practice (r .baud))

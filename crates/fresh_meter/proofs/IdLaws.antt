@@ -12,7 +12,7 @@ use Rattle.laws.proofs.Lists.{and-l, and-r}
 use Rattle.meter.specs.Meter.{rates}
 use Rattle.rules.specs.Tables.{media, faults, isMedium, isFault, isRate}
 use Rattle.meter_list.specs.Layout.{Listed}
-use Rattle.rules.specs.Check.{allWithin, textDigits, goodId, goodMaker, check}
+use Rattle.rules.specs.Check.{allWithin, textDigits, goodId, goodManufacturer, check}
 
 -- eight digits, each below ten
 abbrev pub EightDigits : List ℕ → Type 0
@@ -34,7 +34,7 @@ unfolding check
 check-id r h = go (ltb 250 (r .primary)) (goodId (r .id)) refl h
   where
     go : (a b : Bool) → goodId (r .id) ≡ b
-        → _≡_ {A = ℕ} (if a then 4 else (if not b then 5 else (if not (goodMaker (r .manufacturer) (r .medium)) then 6 else (if not (isMedium media (r .medium)) then 7 else
+        → _≡_ {A = ℕ} (if a then 4 else (if not b then 5 else (if not (goodManufacturer (r .manufacturer) (r .medium)) then 6 else (if not (isMedium media (r .medium)) then 7 else
         (if not (eqb (r .baud) 0 || isRate rates (r .baud)) then 8 else (if not (isFault faults (r .fault)) then 9 else 0)))))) 0 → goodId (r .id) ≡ true
     go true b e f = absurd (omega arith)
     go false true e f = e

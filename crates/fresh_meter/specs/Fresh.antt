@@ -4,7 +4,7 @@ use mathlib.Core.List.{List}
 use Prim.Native.Nat.{ℕ, _*_, _%_}
 use lib.Dec.{eqb}
 use Rattle.laws.specs.Words.{if_then_else_}
-use Rattle.identity.specs.Identity.{makerCode, decimal}
+use Rattle.identity.specs.Identity.{manufacturerCode, decimal}
 use Rattle.meter.specs.PlainMeter.{PlainMeter}
 use Rattle.meter.specs.declared.LastFcb.the-variants.{Never}
 use Rattle.rules.specs.Tables.{media, faults, mediumOf, faultOf}
@@ -26,13 +26,13 @@ seedFrom practice id = if practice then 0 else id % 997 * 53
 unfoldable pub seedOf : Bool → List ℕ → ℕ
 seedOf practice digits = seedFrom practice (decimal digits)
 
--- "A fresh meter: access 0, not selected, part 0, no last FCB, readouts 0, and a flaky one misses its first telegram."
+-- "A fresh meter: access 0, not selected, part 0, no last FCB (the alternation bit, 20), readouts 0, and a flaky one misses its first telegram."
 unfoldable pub fresh : ℕ → Bool → Listed → PlainMeter
 fresh bus practice r =
     record {
       primary = r .primary;
       digits = textDigits (r .id);
-      manufacturer = makerCode (r .manufacturer);
+      manufacturer = manufacturerCode (r .manufacturer);
       version = r .version;
       medium = mediumOf media (r .medium) .code;
       model = mediumOf media (r .medium) .model;

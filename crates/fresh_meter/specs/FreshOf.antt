@@ -1,4 +1,4 @@
--- The program's fresh meter, by the values of a record that passes.
+-- The program's fresh meter, by the values of a record that passes. That it is 01's fresh meter is proved (proofs/FreshLaws, `fresh-plain`).
 use mathlib.Core.Bool.{Bool, false}
 use Prim.Native.Nat.{ℕ}
 use Rattle.meter.specs.declared.LastFcb.the-variants.{Never}

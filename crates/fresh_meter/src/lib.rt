@@ -7,7 +7,7 @@ use meter::Meter;
 use rules::OwnBaud;
 use rules::Values;
 
-// One of its own that equals the bus baud becomes 2400 with the practice flag.
+// An own baud equal to the bus baud becomes 2400 with the practice flag.
 fn other_than_bus(own: u32, bus: u32, practice: bool) -> u32
     ensures { λ r. ⌜ r ≡ otherThanBus bus practice own ⌝ }
 {

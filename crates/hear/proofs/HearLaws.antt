@@ -1,5 +1,5 @@
 -- What the two telegrams of a search do to a meter.
-use mathlib.Core.Path.{_≡_, refl, _∙_}
+use mathlib.Core.Path.{_≡_, refl, _∙_, ap}
 use mathlib.Core.Bool.{Bool, true, false, _&&_}
 use mathlib.Core.List.{List}
 use Prim.Native.Nat.{ℕ}
@@ -9,7 +9,7 @@ use lib.Ieee.{Float}
 use Rattle.laws.specs.Words.{if_then_else_}
 use Rattle.laws.proofs.Lists.{if-all}
 use Rattle.frame.specs.Frame.{Telegram, short, long}
-use Rattle.hear.proofs.KeepLaws.{hear-same}
+use Rattle.hear.proofs.KeepLaws.{Fixed, hear-fixed}
 use Rattle.meter.specs.PlainMeter.{PlainMeter}
 use Rattle.clock.specs.declared.Clock.{Clock}
 use Rattle.meter.specs.Meter.{withSelected, reset, flaky, hears, put}
@@ -21,7 +21,7 @@ use Rattle.hear.specs.Hear.{silence, says, Heard, quiet, answers, E5, ta
 -- ---- the digits stay
 
 pub hear-digits : (bus : ℕ) (t : Telegram) (e : Float) (k : Clock) (m : PlainMeter) → (hear bus t e k m) .meter .digits ≡ m .digits
-hear-digits bus t e k m = (hear-same bus t e k m) .digits
+hear-digits bus t e k m = ap (λ (f : Fixed). f .digits) (hear-fixed bus t e k m)
 
 -- ---- a select and a reading, one meter
 

@@ -4,10 +4,11 @@ use mathlib.Core.Path.{_≡_, refl}
 use mathlib.Core.Bool.{Bool, true, false, _||_, not}
 use mathlib.Core.List.{List}
 use Prim.Native.Nat.{ℕ, _-_}
-use native.Mathlib.Omega.{arith}
 use lib.Dec.{eqb}
 use lib.Ieee.{Float}
 use lib.ListN.{getD}
+use Rattle.meter.specs.declared.Model.{Model}
+use Rattle.meter.specs.declared.Fault.{Fault}
 use Rattle.laws.specs.Words.{at}
 use Rattle.laws.proofs.Lists.{if-all, if-with}
 use Rattle.frame.specs.Frame.{Telegram, ack, short, long, dataOf}
@@ -80,48 +81,25 @@ module _ {P : PlainMeter → Type 0} (m : PlainMeter) (h : P m) (e : Float) (k :
 
 -- ---- what never changes
 
-pub record Same (m n : PlainMeter) : Type 0 where
-  pub digits : n .digits ≡ m .digits
-  pub manufacturer : n .manufacturer ≡ m .manufacturer
-  pub version : n .version ≡ m .version
-  pub medium : n .medium ≡ m .medium
-  pub model : n .model ≡ m .model
-  pub fault : n .fault ≡ m .fault
-  pub seed : n .seed ≡ m .seed
+-- what no telegram changes of a meter
+pub record Fixed : Type 0 where
+  pub digits : List ℕ
+  pub manufacturer : ℕ
+  pub version : ℕ
+  pub medium : ℕ
+  pub model : Model
+  pub fault : Fault
+  pub seed : ℕ
 
-abbrev Stays : PlainMeter → PlainMeter → Type 0
-Stays m n =
-    (n .digits ≡ m .digits)
-    × (n .manufacturer ≡ m .manufacturer)
-    × (n .version ≡ m .version)
-    × (n .medium ≡ m .medium)
-    × (n .model ≡ m .model)
-    × (n .fault ≡ m .fault)
-    × (n .seed ≡ m .seed)
+abbrev pub fixed : PlainMeter → Fixed
+fixed m =
+    record { digits = m .digits; manufacturer = m .manufacturer; version = m .version; medium = m .medium; model = m .model; fault = m .fault; seed = m .seed }
 
 module _ (bus : ℕ) (t : Telegram) (e : Float) (k : Clock) (m : PlainMeter) where
-  stays-closed : Closed t (Stays m)
+  fixed-closed : Closed t (λ n. fixed n ≡ fixed m)
   unfolding asked
-  stays-closed = record { primary = λ n h. h; baud = λ n b q h. h; selected = λ n s h. h; hearing = λ n b h. h; reset = λ n h. h; asked = λ n fcb h. h }
+  fixed-closed = record { primary = λ n h. h; baud = λ n b q h. h; selected = λ n s h. h; hearing = λ n b h. h; reset = λ n h. h; asked = λ n fcb h. h }
 
-  pub hear-same : Same m ((hear bus t e k m) .meter)
-  hear-same =
-      let s : Stays m ((hear bus t e k m) .meter) = hear-keeps {P = Stays m} m (refl, refl, refl, refl, refl, refl, refl) e k bus t stays-closed in
-      record { digits = s .0; manufacturer = s .1; version = s .2; medium = s .3; model = s .4; fault = s .5; seed = s .6 }
-
+  pub hear-fixed : fixed ((hear bus t e k m) .meter) ≡ fixed m
+  hear-fixed = hear-keeps {P = λ n. fixed n ≡ fixed m} m refl e k bus t fixed-closed
   -- ---- the rate
-
-  baud-closed : setsRate t ≡ false → Closed t (λ n. n .baud ≡ m .baud)
-  unfolding asked
-  baud-closed f =
-      record {
-        primary = λ n h. h;
-        baud = λ n b s h. let z : _≡_ {A = ℕ} 0 1 = cc in absurd (omega arith);
-        selected = λ n s h. h;
-        hearing = λ n b h. h;
-        reset = λ n h. h;
-        asked = λ n fcb h. h;
-      }
-
-  pub hear-baud : setsRate t ≡ false → (hear bus t e k m) .meter .baud ≡ m .baud
-  hear-baud f = hear-keeps m refl e k bus t (baud-closed f)

@@ -75,7 +75,7 @@ target a m = reaches a (m .primary) (m .selected)
 
 -- ---- what each does
 
--- "NKE resets a hearing target, deselects it for FD and FF, one E5"; a target that does not hear it has had it put to it all the same
+-- "NKE (short, C exactly 40) resets a hearing target, deselects it for FD and FF, one E5."; a target that does not hear it has had it put to it all the same
 unfoldable pub nke : ℕ → PlainMeter → Heard
 nke a m =
     if hears m then answers E5 (if eqb a 0xFD || eqb a 0xFF then withSelected false (reset (put m)) else reset (put m))
@@ -96,7 +96,7 @@ select d m =
     else quiet (withSelected false m)
 
 -- "primary becomes p"; "rate number CI − B8 of BAUD_RATES, from 0"; "CI 50, any data: reset".
--- "These three give one E5 for each target and take no notice of flaky. Others do nothing."
+-- "These three, in SND_UD (C masked with CF is 43), give one E5 for each target and take no notice of flaky. Others do nothing."
 unfoldable pub commanded : ℕ → List ℕ → PlainMeter → Heard
 commanded ci d m =
     if setsPrimary ci d then answers E5 (withPrimary (at d 2) m) else

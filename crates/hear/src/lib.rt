@@ -46,7 +46,7 @@ pub fn hear(m: Meter, bus: u32, frame: Frame, data: &[u8]) -> Heard
     }
 }
 
-// Whether a telegram can do anything to a meter with this primary address, selection and id. It spares the others the step.
+// Whether a telegram can do anything to a meter with this primary address, selection and id. The others need no step.
 pub fn concerns(frame: Frame, data: &[u8], primary: u8, selected: bool, id: u32) -> bool
     ensures { λ r. ⌜ r ≡ concerns (telegramOf frame (now («data» .entry))) primary selected (digitsOf id) ⌝ }
 {

@@ -11,7 +11,7 @@ use super::Heard;
 use super::telegrams;
 use asking::asked;
 use meter::Meter;
-use meter::hearing;
+use meter::changes;
 
 // The meter with no reply.
 pub(crate) fn quiet(m: Meter) -> Heard
@@ -37,11 +37,11 @@ fn acknowledged(m: Meter) -> Heard
 fn nke(m: Meter, address: u8) -> Heard
     ensures { λ r. ⌜ ((e : Float) (k : Clock) → heardOf e k r ≡ nke address (plainMeter m)) ⌝ }
 {
-    let n = hearing::put(m);
-    if hearing::hears(m) {
-        let k = hearing::reset(n);
+    let n = changes::put(m);
+    if changes::hears(m) {
+        let k = changes::reset(n);
         if telegrams::deselects(address) {
-            return acknowledged(hearing::with_selected(k, false));
+            return acknowledged(changes::with_selected(k, false));
         }
         return acknowledged(k);
     }
@@ -52,8 +52,8 @@ fn nke(m: Meter, address: u8) -> Heard
 fn request(m: Meter, fcb: bool) -> Heard
     ensures { λ r. ⌜ ((e : Float) (k : Clock) → heardOf e k r ≡ request fcb e k (plainMeter m)) ⌝ }
 {
-    let n = hearing::put(m);
-    if hearing::hears(m) {
+    let n = changes::put(m);
+    if changes::hears(m) {
         let a = asked(n, fcb);
         return Heard {
             meter: a,
@@ -68,13 +68,13 @@ fn select(m: Meter, data: &[u8]) -> Heard
     ensures { λ r. ⌜ ((e : Float) (k : Clock) → heardOf e k r ≡ select (now («data» .entry)) (plainMeter m)) ⌝ }
 {
     if matching::matches(m, data) {
-        let n = hearing::put(m);
-        if hearing::hears(m) {
-            return acknowledged(hearing::reset(hearing::with_selected(n, true)));
+        let n = changes::put(m);
+        if changes::hears(m) {
+            return acknowledged(changes::reset(changes::with_selected(n, true)));
         }
-        return quiet(hearing::with_selected(n, false));
+        return quiet(changes::with_selected(n, false));
     }
-    quiet(hearing::with_selected(m, false))
+    quiet(changes::with_selected(m, false))
 }
 
 // The other user data at a target: a new primary address, a new rate, a reset. ACK still goes out at the old rate.
@@ -82,13 +82,13 @@ fn command(m: Meter, ci: u8, data: &[u8]) -> Heard
     ensures { λ r. ⌜ ((e : Float) (k : Clock) → heardOf e k r ≡ commanded ci (now («data» .entry)) (plainMeter m)) ⌝ }
 {
     if telegrams::sets_primary(ci, data) {
-        return acknowledged(hearing::with_primary(m, data[2]));
+        return acknowledged(changes::with_primary(m, data[2]));
     }
     if telegrams::sets_baud(ci, data) {
-        return acknowledged(hearing::with_baud(m, meter::rate_of(ci - 0xB8)));
+        return acknowledged(changes::with_baud(m, meter::rate_of(ci - 0xB8)));
     }
     if ci == frame::CI_APP_RESET {
-        return acknowledged(hearing::reset(m));
+        return acknowledged(changes::reset(m));
     }
     quiet(m)
 }

@@ -1,51 +1,44 @@
--- The manufacturer's code by the number of letters, and an id's bytes and digits. Assumes nothing.
-use mathlib.Core.Path.{_≡_, refl}
+-- The manufacturer's code by the number of letters, and an id's bytes and digits.
+use mathlib.Core.Path.{_≡_, refl, ap₂}
 use mathlib.Core.List.{List, [], _∷_, _++_}
 use Prim.Native.Nat.{ℕ, _+_, _-_, _*_, _/_, _%_, _≤_, _<_}
 use native.Mathlib.Omega.{arith}
 use lib.ListN.{length, getD}
+use Rattle.laws.proofs.Lists.{of-eight}
 use Rattle.laws.specs.Words.{Every}
 use Rattle.values.specs.Values.{little}
 use Rattle.values.proofs.ValueLaws.{little-four}
-use Rattle.identity.specs.Identity.{capital, makerCode, idBytes, nibbles, digitsOf}
+use Rattle.identity.specs.Identity.{capital, manufacturerCode, idBytes, nibbles, inBase, digitsOf}
 
 -- ---- the manufacturer's code by the number of letters
 
 abbrev five : ℕ → ℕ
 five l = (capital l - 0x40) % 32
 
-pub code-none : (ls : List ℕ) → length ls ≡ 0 → 0 ≡ makerCode ls
-unfolding makerCode
+pub code-none : (ls : List ℕ) → length ls ≡ 0 → 0 ≡ manufacturerCode ls
+unfolding manufacturerCode
 code-none [] e = refl
 code-none (a ∷ ls) e = absurd (omega arith)
 
-pub code-one : {a : ℕ} (ls : List ℕ) → a ≡ five (getD ls 0 0) → length ls ≡ 1 → a ≡ makerCode ls
-unfolding makerCode
+pub code-one : {a : ℕ} (ls : List ℕ) → a ≡ five (getD ls 0 0) → length ls ≡ 1 → a ≡ manufacturerCode ls
+unfolding manufacturerCode
 code-one [] p e = absurd (omega arith)
 code-one (k ∷ []) p e = omega arith
 code-one (k ∷ l ∷ ls) p e = absurd (omega arith)
 
-pub code-two : {a b : ℕ} (ls : List ℕ) → a ≡ five (getD ls 0 0) → b ≡ five (getD ls 1 0) → length ls ≡ 2 → a * 32 + b ≡ makerCode ls
-unfolding makerCode
+pub code-two : {a b : ℕ} (ls : List ℕ) → a ≡ five (getD ls 0 0) → b ≡ five (getD ls 1 0) → length ls ≡ 2 → a * 32 + b ≡ manufacturerCode ls
+unfolding manufacturerCode
 code-two [] p q e = absurd (omega arith)
 code-two (k ∷ []) p q e = absurd (omega arith)
 code-two (k ∷ l ∷ []) p q e = omega arith
 code-two (k ∷ l ∷ m ∷ ls) p q e = absurd (omega arith)
 
-pub code-three : {a b c : ℕ} (ls : List ℕ) → a ≡ five (getD ls 0 0) → b ≡ five (getD ls 1 0) → c ≡ five (getD ls 2 0) → 3 ≤ length ls → (a * 32 + b) * 32 + c ≡ makerCode ls
-unfolding makerCode
+pub code-three : {a b c : ℕ} (ls : List ℕ) → a ≡ five (getD ls 0 0) → b ≡ five (getD ls 1 0) → c ≡ five (getD ls 2 0) → 3 ≤ length ls → (a * 32 + b) * 32 + c ≡ manufacturerCode ls
+unfolding manufacturerCode
 code-three [] p q r e = absurd (omega arith)
 code-three (k ∷ []) p q r e = absurd (omega arith)
 code-three (k ∷ l ∷ []) p q r e = absurd (omega arith)
 code-three (k ∷ l ∷ m ∷ ls) p q r e = omega arith
-
--- fifteen bits at most
-pub code-below : (ls : List ℕ) → makerCode ls < 32768
-unfolding makerCode
-code-below [] = omega arith
-code-below (k ∷ []) = omega arith
-code-below (k ∷ l ∷ []) = omega arith
-code-below (k ∷ l ∷ m ∷ ls) = omega arith
 
 -- ---- ids
 
@@ -86,3 +79,14 @@ id-little id =
   where
     joined : (x y : ℕ) → y ≡ x / 16 → y % 16 * 16 + x % 16 ≡ x % 256
     joined x y e = omega arith
+
+list-same : {x y : ℕ} {xs ys : List ℕ} → x ≡ y → xs ≡ ys → x ∷ xs ≡ y ∷ ys
+list-same p q = ap₂ (λ x xs. x ∷ xs) p q
+
+-- eight nibbles, taken out of their number again
+pub nibbles-back : (ds : List ℕ) → length ds ≡ 8 → Every (λ d. d < 16) ds → digitsOf (inBase 16 ds) ≡ ds
+unfolding digitsOf inBase
+nibbles-back ds l e = of-eight (λ ds. Every (λ d. d < 16) ds → digitsOf (inBase 16 ds) ≡ ds)
+    (λ a b c d e f g h k.
+    list-same (omega arith) (list-same (omega arith) (list-same (omega arith) (list-same (omega arith) (list-same (omega arith) (list-same (omega arith) (list-same (omega arith) (list-same (omega arith) refl))))))))
+    ds l e

@@ -1,4 +1,4 @@
--- How ids and makers are written into bytes.
+-- How ids and manufacturer codes are written into bytes.
 use mathlib.Core.Bool.{_&&_}
 use mathlib.Core.List.{List, [], _∷_}
 use Prim.Native.Nat.{ℕ, _+_, _-_, _*_, _/_, _%_}
@@ -12,8 +12,8 @@ abbrev pub capital : ℕ → ℕ
 capital l = if leb 0x61 l && leb l 0x7A then l - 0x20 else l
 
 -- manufacturer_code: five bits to each of the first three letters, A is 1; an empty text gives 0
-unfoldable pub makerCode : List ℕ → ℕ
-makerCode ls = go 0 (take 3 ls)
+unfoldable pub manufacturerCode : List ℕ → ℕ
+manufacturerCode ls = go 0 (take 3 ls)
   where
     go : ℕ → List ℕ → ℕ
     go code [] = code

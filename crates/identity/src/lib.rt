@@ -2,7 +2,7 @@
 ghost use mathlib.Core.Path.{_≡_};
 ghost use Prim.Native.Nat.{_-_, _%_};
 ghost use Rattle.values.specs.Values.{little};
-ghost use Rattle.identity.specs.Identity.{capital, makerCode};
+ghost use Rattle.identity.specs.Identity.{capital, manufacturerCode};
 use values::le4;
 
 // A small letter as its capital, every other byte as it is.
@@ -31,7 +31,7 @@ fn letter(c: u8) -> u16
 
 // Five bits to each of the first three letters; an empty text gives 0.
 pub fn manufacturer_code(name: &[u8]) -> u16
-    ensures { λ r. ⌜ r ≡ makerCode (now (name .entry)) ⌝ }
+    ensures { λ r. ⌜ r ≡ manufacturerCode (now (name .entry)) ⌝ }
 {
     if name.len() == 0 {
         return 0;

@@ -4,8 +4,9 @@ use mathlib.Core.List.{List, [], _++_, append-assoc}
 use Prim.Native.Nat.{ℕ, _+_, _-_, _≤_}
 use native.Mathlib.Omega.{arith}
 use lib.ListN.{length, take, drop, length-take, length-drop}
-use lib.Seq.{paste, take-paste, length-paste, take-append-le, take-all, take-take, drop-at, drop-length, length-take-le}
+use lib.Seq.{paste, take-paste, length-paste, take-append-le, take-take, drop-at, drop-length, length-take-le}
 use Rattle.laws.proofs.Copy.{drop-take}
+use Rattle.laws.proofs.Lists.{take-rest}
 use Rattle.image.specs.Image.{block}
 
 module _ (d : List ℕ) (p : ℕ) (s : List ℕ) (n : ℕ) (h : p + n ≤ length d) where
@@ -35,12 +36,8 @@ block-take p n k l h m =
 pub block-same : (p n k : ℕ) (l m : List ℕ) → take k l ≡ take k m → p + n ≤ k → p + n ≤ length l → p + n ≤ length m → block p n l ≡ block p n m
 block-same p n k l m e h i j = sym (block-take p n k l h i) ∙ ap (block p n) e ∙ block-take p n k m h j
 
--- all that is left from a place on
-pub rest : (p : ℕ) (l : List ℕ) → take (length l - p) (drop p l) ≡ drop p l
-rest p l = take-all (length l - p) (drop p l) (rw length-drop (omega arith))
-
 pub length-rest : (p n : ℕ) (l : List ℕ) → length l ≡ p + n → length (take (length l - p) (drop p l)) ≡ n
-length-rest p n l h = ap length (rest p l) ∙ length-drop p l ∙ omega arith
+length-rest p n l h = ap length (take-rest l p) ∙ length-drop p l ∙ omega arith
 
 pub nothing-left : (p : ℕ) (l : List ℕ) → drop (length l - p) (drop p l) ≡ []
 nothing-left p l = ap (λ (n : ℕ). drop n (drop p l)) (sym (length-drop p l)) ∙ drop-length (drop p l)

@@ -5,7 +5,7 @@ use Prim.Native.Nat.{ℕ, _+_, _-_, _*_, _≤_}
 use native.Mathlib.Omega.{arith}
 use lib.ListN.{length, take, drop, replicate, length-append, length-map}
 use lib.Seq.{paste, take-at, drop-at, take-all, length-take-le}
-use Rattle.laws.specs.Rows.{rows}
+use Rattle.laws.specs.Words.{each}
 use Rattle.laws.proofs.Rows.{length-rows}
 use Rattle.meter.specs.PlainMeter.{PlainMeter}
 use Rattle.meter.specs.View.{plainMeter}
@@ -79,18 +79,18 @@ module _ {s : Segment} {c w q : ℕ} {head l₀ l₁ l₂ l₃ ms : List ℕ} (k
   front-is : take 4374 l₃ ≡ head ++ filled 260 input ++ filled 4096 queue
   front-is = ap (take 4374) third-is ∙ take-at (head ++ filled 260 input ++ filled 4096 queue) (replicate (25 * capacity) 0) 4374 third-long
 
-  meters-are : ms ≡ filled (25 * capacity) (rows meterBytes meters)
+  meters-are : ms ≡ filled (25 * capacity) (each meters meterBytes)
   meters-are =
-      let r : length (rows meterBytes meters) ≡ 25 * c = length-rows meterBytes 25 meter-long meters ∙ ap (λ (n : ℕ). 25 * n) meters-long in
+      let r : length (each meters meterBytes) ≡ 25 * c = length-rows meterBytes 25 meter-long meters ∙ ap (λ (n : ℕ). 25 * n) meters-long in
       k .rows-are
-      ∙ ap (λ (l : List ℕ). rows meterBytes meters ++ drop (25 * c) l) back-is
-      ∙ ap (λ (l : List ℕ). rows meterBytes meters ++ l) (drop-zeros (25 * c) (25 * capacity) (omega (arith, c-most)))
-      ∙ ap (λ (n : ℕ). rows meterBytes meters ++ replicate (25 * capacity - n) 0) (sym r)
+      ∙ ap (λ (l : List ℕ). each meters meterBytes ++ drop (25 * c) l) back-is
+      ∙ ap (λ (l : List ℕ). each meters meterBytes ++ l) (drop-zeros (25 * c) (25 * capacity) (omega (arith, c-most)))
+      ∙ ap (λ (n : ℕ). each meters meterBytes ++ replicate (25 * capacity - n) 0) (sym r)
 
   -- ---- the parts are the segment's
 
   abbrev parts : ℕ → ℕ → ℕ → List ℕ → List ℕ → List PlainMeter → List ℕ
-  parts c w q is qs ms = headBytes (s .baud) (s .origin) c w q ++ filled 260 is ++ filled 4096 qs ++ filled (25 * capacity) (rows meterBytes ms)
+  parts c w q is qs ms = headBytes (s .baud) (s .origin) c w q ++ filled 260 is ++ filled 4096 qs ++ filled (25 * capacity) (each ms meterBytes)
 
   pub exact : (end : List ℕ) → end ≡ [] → take 4374 l₃ ++ (ms ++ end) ≡ imageOf (plainOf s)
   unfolding imageOf plainOf
@@ -100,7 +100,7 @@ module _ {s : Segment} {c w q : ℕ} {head l₀ l₁ l₂ l₃ ms : List ℕ} (k
       let m : meters ≡ map plainMeter (take (s .count) (s .meters)) = ap (map plainMeter) (counted-all c (s .count) capacity (k .count-is) (s .meters) (k .meters-long)) in
       ap (λ (x : List ℕ). take 4374 l₃ ++ (ms ++ x)) none
       ∙ ap (λ (x : List ℕ). take 4374 l₃ ++ x) (append-nil ms ∙ meters-are)
-      ∙ ap (λ (x : List ℕ). x ++ filled (25 * capacity) (rows meterBytes meters)) (front-is ∙ ap (λ (x : List ℕ). x ++ filled 260 input ++ filled 4096 queue) (k .head-bytes))
+      ∙ ap (λ (x : List ℕ). x ++ filled (25 * capacity) (each meters meterBytes)) (front-is ∙ ap (λ (x : List ℕ). x ++ filled 260 input ++ filled 4096 queue) (k .head-bytes))
       ∙ ap (λ (n : ℕ). parts n w q input queue meters) (sym meters-long)
       ∙ ap (λ (n : ℕ). parts (length meters) n q input queue meters) (sym input-long)
       ∙ ap (λ (n : ℕ). parts (length meters) (length input) n input queue meters) (sym queue-long)

@@ -1,18 +1,16 @@
 -- The first 18 bytes of an image, by the bytes of its numbers.
-use mathlib.Core.Path.{_≡_, refl, ap, _∙_}
+use mathlib.Core.Path.{_≡_, ap, _∙_}
 use mathlib.Core.List.{List, [], _∷_, _++_}
 use Prim.Native.Nat.{ℕ, _/_}
 use native.Mathlib.Omega.{arith}
 use lib.Ieee.{Float, binary64, toBits}
 use Rattle.laws.specs.Words.{at}
+use Rattle.laws.proofs.Lists.{four}
 use Rattle.values.specs.Values.{little}
 use Rattle.image.specs.Image.{headBytes}
 
 abbrev two : List ℕ → List ℕ
 two l = at l 0 ∷ at l 1 ∷ []
-
-abbrev four : List ℕ → List ℕ
-four l = at l 0 ∷ at l 1 ∷ at l 2 ∷ at l 3 ∷ []
 
 abbrev eight : List ℕ → List ℕ
 eight l = four l ++ (at l 4 ∷ at l 5 ∷ at l 6 ∷ at l 7 ∷ [])

@@ -6,7 +6,7 @@ use native.Mathlib.Numerals.{add-one}
 use native.Mathlib.Omega.{arith}
 use lib.ListN.{length, take, drop, set, getD, length-drop, length-append}
 use lib.Seq.{paste, take-append-le, drop-drop, take-take, take-all, take-suc, take-suc-set, length-paste}
-use Rattle.laws.specs.Rows.{rows}
+use Rattle.laws.specs.Words.{each}
 use Rattle.laws.proofs.Copy.{drop-take}
 use Rattle.laws.proofs.Rows.{Rows, rows-begin, rows-more, rows-map}
 use Rattle.meter.specs.PlainMeter.{PlainMeter}
@@ -95,9 +95,9 @@ module _ {ms : List Meter} {bs₀ : List ℕ} where
       }
 
   pub put-all : {i : ℕ} {bs : List ℕ} (n : ℕ) → Put ms bs₀ i bs → i ≡ n
-      → (bs ≡ rows meterBytes (map plainMeter (take n ms)) ++ drop (25 * n) bs₀) × (meters n bs ≡ map plainMeter (take n ms))
+      → (bs ≡ each (map plainMeter (take n ms)) meterBytes ++ drop (25 * n) bs₀) × (meters n bs ≡ map plainMeter (take n ms))
   put-all {i} {bs} n g e =
-      subst (λ (k : ℕ). (bs ≡ rows meterBytes (map plainMeter (take k ms)) ++ drop (25 * k) bs₀) × (meters k bs ≡ map plainMeter (take k ms))) e
+      subst (λ (k : ℕ). (bs ≡ each (map plainMeter (take k ms)) meterBytes ++ drop (25 * k) bs₀) × (meters k bs ≡ map plainMeter (take k ms))) e
       (g .written .is ∙ ap (λ (r : List ℕ). r ++ drop (25 * i) bs₀) (rows-map meterBytes plainMeter (take i ms)), g .is)
 
 -- what lies behind the meters has no part in them

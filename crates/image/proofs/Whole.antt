@@ -7,7 +7,7 @@ use lib.Ieee.{Float, binary64, ofBits}
 use lib.ListN.{length, take, drop, replicate, length-append, length-replicate}
 use lib.Seq.{paste, length-paste, take-at, drop-at, take-take, length-take-le, take-all}
 use Rattle.laws.proofs.Copy.{take-min}
-use Rattle.laws.specs.Rows.{rows}
+use Rattle.laws.specs.Words.{each}
 use Rattle.meter.specs.View.{plainMeter}
 use Rattle.meter_image.specs.MeterBytes.{meterBytes}
 use Rattle.scenarios.specs.Opening.{capacity}
@@ -66,7 +66,7 @@ pub record Copies (s : Segment) (c w q : ℕ) (head l₀ l₁ l₂ l₃ ms : Lis
   pub second : l₂ ≡ paste l₁ 18 (s .input) w
   pub third : l₃ ≡ paste l₂ 278 (s .queue) q
   pub ms-long : length ms ≡ 25 * capacity
-  pub rows-are : ms ≡ rows meterBytes (map plainMeter (take c (s .meters))) ++ drop (25 * c) (drop 4374 l₃)
+  pub rows-are : ms ≡ each (map plainMeter (take c (s .meters))) meterBytes ++ drop (25 * c) (drop 4374 l₃)
   pub last : meters c ms ≡ map plainMeter (take c (s .meters))
 
 module _ {s : Segment} {c w q : ℕ} {head l₀ l₁ l₂ l₃ ms : List ℕ} (k : Copies s c w q head l₀ l₁ l₂ l₃ ms) where

@@ -1,10 +1,9 @@
--- A worked example of an image's bytes, both ways. Assumes nothing.
+-- A worked example of an image's bytes, both ways.
 use mathlib.Core.Path.{_≡_, refl}
 use mathlib.Core.List.{List, [], _∷_, _++_}
 use Prim.Native.Nat.{ℕ}
 use lib.Ieee.{nan, toBits, ofBits}
 use lib.ListN.{replicate}
-use Rattle.laws.specs.Rows.{rows}
 use Rattle.values.specs.Values.{little}
 use Rattle.identity.specs.Identity.{idBytes, digitsOf}
 use Rattle.scenarios.specs.Opening.{capacity}
@@ -27,5 +26,5 @@ unfolding imaged metered meters number digitsOf a-meter a-meter-is ofBits capaci
 means-one-meter = refl
 
 image-of-one-meter : imageOf a-segment ≡ an-image
-unfolding imageOf headBytes rows meterBytes little idBytes a-meter a-meter-is toBits capacity an-image a-segment
+unfolding imageOf headBytes meterBytes little idBytes a-meter a-meter-is toBits capacity an-image a-segment
 image-of-one-meter = refl

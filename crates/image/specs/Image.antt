@@ -4,7 +4,7 @@ use mathlib.Core.List.{List, [], _∷_, _++_}
 use Prim.Native.Nat.{ℕ, zero, suc, _+_, _-_, _*_, min}
 use lib.Ieee.{Float, binary64, toBits, ofBits}
 use lib.ListN.{length, take, drop, replicate}
-use Rattle.laws.specs.Rows.{rows}
+use Rattle.laws.specs.Words.{each}
 use Rattle.values.specs.Values.{little}
 use Rattle.meter.specs.PlainMeter.{PlainMeter}
 use Rattle.meter_image.specs.MeterBytes.{metered, meterBytes}
@@ -51,7 +51,7 @@ pub record Head (baud : ℕ) (origin : Float) (count waiting queued : ℕ) (bs :
 
 -- ---- and back
 
--- the first 18 bytes. A NaN has one pattern
+-- the first 18 bytes. A NaN has the pattern 7FF8000000000000
 unfoldable pub headBytes : ℕ → Float → ℕ → ℕ → ℕ → List ℕ
 headBytes baud origin count waiting queued = little 4 baud ++ little 8 (toBits binary64 origin) ++ little 2 count ++ little 2 waiting ++ little 2 queued
 
@@ -65,7 +65,7 @@ imageOf s =
     headBytes (s .baud) (s .origin) (length (s .meters)) (length (s .input)) (length (s .queue))
     ++ filled 260 (s .input)
     ++ filled 4096 (s .queue)
-    ++ filled (25 * capacity) (rows meterBytes (s .meters))
+    ++ filled (25 * capacity) (each (s .meters) meterBytes)
 
 -- the image of a segment, which means it
 pub record IsImage (s : Plain) (bs : List ℕ) : Type 0 where

@@ -5,13 +5,15 @@ ghost use mathlib.Core.List.{map, _++_};
 ghost use Prim.Native.Nat.{_+_, _*_, _≤_, _<_};
 ghost use lib.ListN.{length, take, drop, replicate};
 ghost use lib.Seq.{paste};
-ghost use Rattle.laws.specs.Rows.{rows};
+ghost use Rattle.laws.specs.Words.{each};
 ghost use Rattle.scenarios.specs.Opening.{capacity};
 ghost use Rattle.meter.specs.View.{plainMeter};
 ghost use Rattle.meter_image.specs.MeterBytes.{meterBytes};
 ghost use Rattle.bus.specs.View.{plainOf};
 ghost use Rattle.image.specs.Image.{block, meters, imaged, Head, headBytes, IsImage};
+use bus::INPUT;
 use bus::METERS;
+use bus::QUEUE;
 use bus::Segment;
 use laws::least;
 use meter::Meter;
@@ -22,7 +24,7 @@ use numbers::two;
 mod copying; // copying.rt: the eight bytes of an f64's pattern, and blocks of bytes
 
 // The numbers, the input, the queue, and 25 bytes for each meter.
-pub const IMAGE: usize = 18 + 260 + 4096 + 25 * METERS;
+pub const IMAGE: usize = 18 + INPUT + QUEUE + 25 * METERS;
 
 // ---- the meters
 
@@ -51,7 +53,7 @@ fn read_meters(bs: &[u8], count: usize) -> [Meter; METERS]
 // The first count meters.
 fn write_meters(ms: [Meter; METERS], count: usize, bs: &mut [u8])
     requires { ⌜ (length (now bs) ≡ 25 * capacity) × (count ≤ capacity) ⌝ }
-    ensures { λ _. ⌜ (now (bs .exit) ≡ rows meterBytes (map plainMeter (take count ms)) ++ drop (25 * count) (now (bs .entry))) × (meters count (now (bs .exit)) ≡ map plainMeter (take count ms)) ⌝ }
+    ensures { λ _. ⌜ (now (bs .exit) ≡ each (map plainMeter (take count ms)) meterBytes ++ drop (25 * count) (now (bs .entry))) × (meters count (now (bs .exit)) ≡ map plainMeter (take count ms)) ⌝ }
 {
     let mut i: usize = 0;
     while i < count {
@@ -64,12 +66,12 @@ fn write_meters(ms: [Meter; METERS], count: usize, bs: &mut [u8])
 
 // ---- the segment
 
-fn blank_input() -> [u8; 260] {
-    [0u8; 260]
+fn blank_input() -> [u8; INPUT] {
+    [0u8; INPUT]
 }
 
 // The first n bytes of the input; the others are 0.
-fn read_input(bs: &[u8], n: usize) -> [u8; 260]
+fn read_input(bs: &[u8], n: usize) -> [u8; INPUT]
     requires { ⌜ (278 ≤ length (now bs)) × (n ≤ 260) ⌝ }
     ensures { λ r. ⌜ take n r ≡ block 18 n (now (bs .entry)) ⌝ }
 {
@@ -78,12 +80,12 @@ fn read_input(bs: &[u8], n: usize) -> [u8; 260]
     input
 }
 
-fn blank_queue() -> [u8; 4096] {
-    [0u8; 4096]
+fn blank_queue() -> [u8; QUEUE] {
+    [0u8; QUEUE]
 }
 
 // The first n bytes of the queue; the others are 0.
-fn read_queue(bs: &[u8], n: usize) -> [u8; 4096]
+fn read_queue(bs: &[u8], n: usize) -> [u8; QUEUE]
     requires { ⌜ (4374 ≤ length (now bs)) × (n ≤ 4096) ⌝ }
     ensures { λ r. ⌜ take n r ≡ block 278 n (now (bs .entry)) ⌝ }
 {
@@ -98,8 +100,8 @@ pub fn read_image(image: &[u8; IMAGE]) -> Segment
 {
     let bs = &image[..];
     let count = least(two(bs[12], bs[13]) as usize, METERS);
-    let waiting = least(two(bs[14], bs[15]) as usize, 260);
-    let queued = least(two(bs[16], bs[17]) as usize, 4096);
+    let waiting = least(two(bs[14], bs[15]) as usize, INPUT);
+    let queued = least(two(bs[16], bs[17]) as usize, QUEUE);
     let input = read_input(bs, waiting);
     let queue = read_queue(bs, queued);
     let meters = read_meters(&bs[4374..], count);
@@ -153,8 +155,8 @@ fn write_parts(s: Segment, bs: &mut [u8])
     ensures { λ _. ⌜ IsImage (plainOf s) (now (bs .exit)) ⌝ }
 {
     let count = least(s.count, METERS);
-    let waiting = least(s.waiting, 260);
-    let queued = least(s.queued, 4096);
+    let waiting = least(s.waiting, INPUT);
+    let queued = least(s.queued, QUEUE);
     let head = head_bytes(s.baud, s.origin, count, waiting, queued);
     let input = s.input;
     let queue = s.queue;

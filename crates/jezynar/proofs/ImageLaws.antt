@@ -1,7 +1,7 @@
 -- Calls on an image, from what the calls by value give.
 use mathlib.Core.Path.{_≡_, refl, sym, ap, subst, _∙_}
 use mathlib.Core.Bool.{Bool, false, _||_, not}
-use mathlib.Core.List.{List, [], _∷_, _++_}
+use mathlib.Core.List.{List, [], _∷_}
 use Prim.Native.Nat.{ℕ, suc, _+_, _-_, _*_, _/_, _%_, _≤_, _<_}
 use native.Mathlib.Omega.{arith}
 use lib.Dec.{eqb, ltb}
@@ -10,10 +10,9 @@ use lib.ListN.{length, drop, length-append}
 use borrow.Author.Tests.{ltb-false}
 use Rattle.laws.specs.Words.{if_then_else_, at}
 use Rattle.laws.proofs.Lists.{if-all, if-with}
-use Rattle.clock.specs.declared.Clock.{Clock}
 use Rattle.meter.specs.Meter.{rates}
 use Rattle.rules.specs.Tables.{isRate}
-use Rattle.meter_list.specs.Layout.{Listed, Layout, fits, noFit, readRecords}
+use Rattle.meter_list.specs.Layout.{Layout, fits, noFit, readRecords}
 use Rattle.rules.specs.Check.{allPass}
 use Rattle.scenarios.specs.Opening.{mostMeters, capacity, Opened, opens, refuses, refusesRecord, OpeningGives, openRecords, openList}
 use Rattle.refusals.specs.Refusals.{refusalNumber}
@@ -22,7 +21,7 @@ use Rattle.refusals.specs.declared.Refusal.the-variants.{Accepted, Version, Len
 use Rattle.rules.specs.Checked.{failNumber}
 use Rattle.rules.specs.declared.Failing.{Failing}
 use Rattle.rules.specs.declared.Failing.the-variants.{BadPrimary, BadId, BadManufacturer, BadMedium, BadBaud, BadFault}
-use Rattle.bus.specs.Plain.{Plain, withInput}
+use Rattle.bus.specs.Plain.{Plain}
 use Rattle.bus.specs.Calls as calls
 use Rattle.bus.specs.Calls.{Done, afterOpening}
 use Rattle.image.specs.Image.{imaged, imageOf, IsImage}

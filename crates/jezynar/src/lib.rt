@@ -7,19 +7,15 @@ ghost use Rattle.refusals.specs.Refusals.{refusalNumber, refusalIndex};
 ghost use Rattle.scenarios.specs.Opening.{mostMeters};
 ghost use Rattle.bus.specs.Plain.{blank};
 ghost use Rattle.bus.specs.Calls;
-ghost use Rattle.bus.specs.View.{changingNumber};
 ghost use Rattle.send.specs.Send;
-ghost use Rattle.send.specs.View.{sendingNumber};
 ghost use Rattle.image.specs.Image.{imaged, imageLen, IsImage};
 ghost use Rattle.jezynar.specs.Answers.{DoneImage, OpenedImage, ReceivedImage};
 ghost use Rattle.search_call.specs.Searches.{searchBy, Searches};
 ghost use Rattle.telegram_calls.specs.Telegrams.{Parses, telegramBy, Writes};
-use bus::Changing;
 use bus::Segment;
 use clock::Clock;
 use image::IMAGE;
 use refusals::Refusal;
-use send::Sending;
 
 const LEN: usize = IMAGE;
 
@@ -50,15 +46,6 @@ pub extern "C" fn segment_clear(image: &mut [u8; IMAGE])
     image::write_image(cleared, image);
 }
 
-fn changing_number(answer: Changing) -> u32
-    ensures { λ r. ⌜ r ≡ changingNumber answer ⌝ }
-{
-    match answer {
-        Changing::Accepted => 0,
-        Changing::NoRate => 10,
-    }
-}
-
 // Sets the bus baud and empties the input. 10: no rate.
 #[no_mangle]
 pub extern "C" fn segment_set_baud(image: &mut [u8; IMAGE], baud: u32) -> u32
@@ -67,7 +54,7 @@ pub extern "C" fn segment_set_baud(image: &mut [u8; IMAGE], baud: u32) -> u32
     let s = image::read_image(image);
     let done = bus::set_baud(s, baud);
     let answer = done.answer;
-    let number = changing_number(answer);
+    let number = bus::changing_number(answer);
     if number != 0 {
         return number;
     }
@@ -109,17 +96,6 @@ pub extern "C" fn segment_open(
     0
 }
 
-fn sending_number(answer: Sending) -> u32
-    ensures { λ r. ⌜ r ≡ sendingNumber answer ⌝ }
-{
-    match answer {
-        Sending::Accepted => 0,
-        Sending::PieceTooLong => 13,
-        Sending::ClockOutOfRange => 14,
-        Sending::QueueFull => 15,
-    }
-}
-
 // Sends a piece at a clock. 13: piece over 1,024; 14: a clock field out of range; 15: queue would pass 4,096.
 #[no_mangle]
 pub extern "C" fn segment_send(
@@ -145,7 +121,7 @@ pub extern "C" fn segment_send(
     };
     let done = send::send(s, piece, clock);
     let answer = done.answer;
-    let number = sending_number(answer);
+    let number = send::sending_number(answer);
     if number != 0 {
         return number;
     }

@@ -1,6 +1,6 @@
 -- A loop that copies s into d from place at on: its invariant, what a turn adds, the first elements at the end, and what lies past them.
 -- l is d as it is after j elements.
-use mathlib.Core.Path.{_≡_, refl, sym, ap, _∙_}
+use mathlib.Core.Path.{_≡_, sym, ap, _∙_}
 use mathlib.Core.List.{List, [], _∷_, _++_}
 use Prim.Native.Nat.{ℕ, zero, suc, _+_, _-_, _≤_, _<_, min}
 use native.Mathlib.Nat.{zero-add, min-zero, zero-min, suc-min-suc}
@@ -77,3 +77,16 @@ module _ {A : Type 0} where
   -- a copy to the front
   pub copied-front : {d s l : List A} {j : ℕ} → Copied d 0 s j l → l ≡ take j s ++ drop j d
   copied-front {d} {s} {l} {j} c = c .is ∙ ap (λ (k : ℕ). take j s ++ drop k d) (zero-add j)
+
+  drop-min : (n : ℕ) (xs : List A) → drop (min n (length xs)) xs ≡ drop n xs
+  drop-min zero xs = rw zero-min
+  drop-min (suc n) [] = rw min-zero
+  drop-min (suc n) (x ∷ xs) = rw suc-min-suc (drop-min n xs)
+
+  -- a part from `start` on, cut where the list ends
+  pub part-min : (s : List A) (start len x y : ℕ) → x ≡ min start (length s) → y ≡ min len (length s - x) → take (x + y - x) (drop x s) ≡ take len (drop start s)
+  part-min s start len x y p q =
+      let w : x + y - x ≡ y = omega arith in
+      let d : drop x s ≡ drop start s = ap (λ (k : ℕ). drop k s) p ∙ drop-min start s in
+      let e : y ≡ min len (length (drop start s)) = q ∙ ap (min len) (sym (length-drop x s) ∙ ap length d) in
+      ap (λ (k : ℕ). take k (drop x s)) w ∙ ap (take y) d ∙ ap (λ (k : ℕ). take k (drop start s)) e ∙ take-min len (drop start s)

@@ -2,7 +2,7 @@
 use mathlib.Core.Path.{_≡_, refl, sym, ap, ap₂, _∙_}
 use mathlib.Core.Bool.{Bool, true, false, cond, _&&_}
 use mathlib.Core.List.{List, [], _∷_, _++_, map}
-use Prim.Native.Nat.{ℕ, zero, suc, _+_, _-_, _%_, _≤_, _<_, zero-le}
+use Prim.Native.Nat.{ℕ, zero, suc, _+_, _-_, _≤_, zero-le}
 use native.Mathlib.Omega.{arith}
 use lib.ListN.{length, take, drop, set, getD, length-drop}
 use lib.Seq.{take-all}
@@ -30,6 +30,11 @@ module _ {A : Type 0} where
   pub every-all : {P : A → Type 0} → ((x : A) → P x) → (xs : List A) → Every P xs
   every-all f [] = tt
   every-all f (x ∷ xs) = (f x, every-all f xs)
+
+  pub every-take : (P : A → Type 0) (n : ℕ) (xs : List A) → Every P xs → Every P (take n xs)
+  every-take P zero xs h = tt
+  every-take P (suc n) [] h = tt
+  every-take P (suc n) (x ∷ xs) h = (h .0, every-take P n xs (h .1))
 
   pub every-append : (P : A → Type 0) (xs ys : List A) → Every P xs → Every P ys → Every P (xs ++ ys)
   every-append P [] ys h k = k
@@ -140,9 +145,6 @@ take-rest xs n = take-all (length xs - n) (drop n xs) (omega (arith, length-drop
 
 -- ---- bytes
 
-pub byte-below : (v : ℕ) → v % 256 < 256
-byte-below v = omega arith
-
 -- a list by its elements
 pub two-of : (v : List ℕ) → length v ≡ 2 → getD v 0 0 ∷ getD v 1 0 ∷ [] ≡ v
 two-of [] e = absurd (omega arith)
@@ -150,7 +152,29 @@ two-of (a ∷ []) e = absurd (omega arith)
 two-of (a ∷ b ∷ []) e = refl
 two-of (a ∷ b ∷ c ∷ v) e = absurd (omega arith)
 
-pub four-of : (v : List ℕ) → length v ≡ 4 → getD v 0 0 ∷ getD v 1 0 ∷ getD v 2 0 ∷ getD v 3 0 ∷ [] ≡ v
+-- the first four
+abbrev pub four : List ℕ → List ℕ
+four v = getD v 0 0 ∷ getD v 1 0 ∷ getD v 2 0 ∷ getD v 3 0 ∷ []
+
+pub four-of : (v : List ℕ) → length v ≡ 4 → four v ≡ v
 four-of [] e = absurd (omega arith)
 four-of (a ∷ []) e = absurd (omega arith)
 four-of (a ∷ b ∷ v) e = ap (λ l. a ∷ b ∷ l) (two-of v (omega arith))
+
+-- three blocks of four, and what lies behind them
+pub blocks-before : (a b c : List ℕ) → length a ≡ 4 → length b ≡ 4 → length c ≡ 4 → (z : List ℕ) → four a ++ four b ++ four c ++ z ≡ a ++ b ++ c ++ z
+blocks-before a b c h k m z =
+    ap (λ (x : List ℕ). x ++ four b ++ four c ++ z) (four-of a h) ∙ ap (λ (x : List ℕ). a ++ x ++ four c ++ z) (four-of b k) ∙ ap (λ (x : List ℕ). a ++ b ++ x ++ z) (four-of c m)
+
+-- what holds of every eight numbers holds of a list of eight
+pub of-eight : (P : List ℕ → Type 0) → ((a b c d e f g h : ℕ) → P (a ∷ b ∷ c ∷ d ∷ e ∷ f ∷ g ∷ h ∷ [])) → (t : List ℕ) → length t ≡ 8 → P t
+of-eight P k [] l = absurd (omega arith)
+of-eight P k (a ∷ []) l = absurd (omega arith)
+of-eight P k (a ∷ b ∷ []) l = absurd (omega arith)
+of-eight P k (a ∷ b ∷ c ∷ []) l = absurd (omega arith)
+of-eight P k (a ∷ b ∷ c ∷ d ∷ []) l = absurd (omega arith)
+of-eight P k (a ∷ b ∷ c ∷ d ∷ e ∷ []) l = absurd (omega arith)
+of-eight P k (a ∷ b ∷ c ∷ d ∷ e ∷ f ∷ []) l = absurd (omega arith)
+of-eight P k (a ∷ b ∷ c ∷ d ∷ e ∷ f ∷ g ∷ []) l = absurd (omega arith)
+of-eight P k (a ∷ b ∷ c ∷ d ∷ e ∷ f ∷ g ∷ h ∷ []) l = k a b c d e f g h
+of-eight P k (a ∷ b ∷ c ∷ d ∷ e ∷ f ∷ g ∷ h ∷ i ∷ t) l = absurd (omega arith)

@@ -8,7 +8,6 @@ use native.Mathlib.Numerals.{add-one}
 use lib.ListN.{length, take, set, getD, length-map}
 use lib.Seq.{take-all}
 use Rattle.laws.specs.Sweep.{swept, fold}
-use Rattle.laws.proofs.Copy.{take-min}
 
 module _ {A : Type 0} (f : A → A) where
   pub getD-swept : (xs : List A) (i : ℕ) (d : A) → i < length xs → getD (swept f i xs) i d ≡ getD xs i d
@@ -52,27 +51,6 @@ module _ {A S : Type 0} {g : S → A → S} {s₀ : S} {xs : List A} where
 
   pub folded-whole : {i : ℕ} {s : S} → Folded g s₀ xs i s → length xs ≤ i → s ≡ fold g s₀ xs
   folded-whole {i} r h = r .is ∙ ap (fold g s₀) (take-all i xs h)
-
-pub record Run {A S : Type 0} (f : A → A) (g : S → A → S) (s₀ : S) (xs : List A) (i : ℕ) (ms : List A) (s : S) : Type 0 where
-  pub list : ms ≡ swept f i xs
-  pub state : s ≡ fold g s₀ (take i xs)
-
-module _ {A S : Type 0} {f : A → A} {g : S → A → S} {s₀ : S} {xs : List A} where
-  pub run-none : Run f g s₀ xs 0 xs s₀
-  run-none = record { list = refl; state = refl }
-
-  pub run-more : {i : ℕ} {ms : List A} {v : A} {s t : S} (d : A) → Run f g s₀ xs i ms s → i < length xs
-      → v ≡ f (getD ms i d) → t ≡ g s (getD ms i d) → Run f g s₀ xs (i + 1) (set ms i v) t
-  run-more {i} {ms} d r h ev et =
-      let e : getD ms i d ≡ getD xs i d = ap (λ (l : List A). getD l i d) (r .list) ∙ getD-swept f xs i d h in
-      record {
-        list = rw (ev, e, r .list, add-one) (set-swept f xs i d h);
-        state = rw (et, e, r .state, add-one) (sym (fold-suc g s₀ xs i d h));
-      }
-
-  pub run-all : (k : ℕ) {i : ℕ} {ms : List A} {s : S} → Run f g s₀ xs i ms s → i ≡ min k (length xs) → (ms ≡ swept f k xs) × (s ≡ fold g s₀ (take k xs))
-  run-all k r e =
-      (r .list ∙ ap (λ (j : ℕ). swept f j xs) e ∙ swept-min f k xs, r .state ∙ ap (λ (j : ℕ). fold g s₀ (take j xs)) e ∙ ap (fold g s₀) (take-min k xs))
 
 -- what owning an array of structs within a struct tells of its list's length, for `search (needs, length-mapped)`
 pub length-mapped : (X Y : Type 0) (f : X → Y) (l : List X) (n : ℕ) → length (map f l) ≡ n → length l ≡ n

@@ -1,20 +1,16 @@
 -- What may be written for a list, by what the opening and the search give.
 use mathlib.Core.Path.{_≡_, refl, sym, ap, ap₂, subst, _∙_}
-use mathlib.Core.Bool.{true, false}
-use mathlib.Core.List.{List, [], _++_}
+use mathlib.Core.Bool.{false}
+use mathlib.Core.List.{List, _++_}
 use Prim.Native.Nat.{ℕ, _≤_}
 use native.Mathlib.Omega.{arith}
-use lib.IntN.{pos}
-use lib.Ieee.{Float, fin}
+use lib.Ieee.{Float}
 use lib.ListN.{length, take, drop, length-replicate}
 use lib.Seq.{take-at, length-take-le}
-use borrow.Author.Tests.{eq-eqb, ne-eqb, le-ltb}
+use borrow.Author.Tests.{eq-eqb, ne-eqb}
 use Rattle.clock.specs.declared.Clock.{Clock}
-use Rattle.scenarios.specs.Opening.{Opened, opens, refuses, refusesRecord, OpeningGives, openList, capacity}
-use Rattle.scenarios.proofs.OpeningLaws.{OpensWell, openList-well}
-use Rattle.bus.specs.Plain.{Plain, blank}
-use Rattle.bus.specs.Calls.{afterOpening}
-use Rattle.clock.specs.Fields.{goodClock}
+use Rattle.scenarios.specs.Opening.{OpeningGives, openList, capacity}
+use Rattle.bus.specs.Plain.{Plain}
 use Rattle.bus.specs.View.{plainOf, Opens}
 use Rattle.bus.specs.declared.Opened.{Opened as Opening}
 use Rattle.bus.specs.declared.Segment.{Segment}
@@ -80,24 +76,3 @@ module _ {input lent after : List ℕ} {r : ℕ} where
             };
         prints = p;
       }
-
--- a list that opens has no more meters than records are lent: the search is not refused
-few-accepted : (k : Clock) (a : ℕ) (lent : List EntryRecord) (s : Plain) → goodClock k ≡ true → s .input ≡ [] → s .queue ≡ [] → length (s .meters) ≤ length lent
-    → (searchCall k a lent s) .number ≡ 0
-unfolding searchCall
-few-accepted k a lent s g p q h = rw (g, p, q, le-ltb (length lent) (length (s .meters)) h)
-
-opened-accepted : (o : Opened) → OpensWell o
-    → (searchCall listingClock 10000 lentRecords (elim o [
-      | opens ms ↦ record { baud = 2400; origin = fin false 0 (pos 0); input = []; queue = []; meters = ms }
-      | refuses n ↦ blank
-      | refusesRecord rs ↦ blank
-    ])) .number ≡ 0
-unfolding listingClock goodClock blank
-opened-accepted (opens ms) h = few-accepted listingClock 10000 lentRecords _ refl refl refl (rw lent-count (h .0))
-opened-accepted (refuses n) h = few-accepted listingClock 10000 lentRecords _ refl refl refl (omega arith)
-opened-accepted (refusesRecord rs) h = few-accepted listingClock 10000 lentRecords _ refl refl refl (omega arith)
-
-pub search-accepted : (list : List ℕ) → (listedSearch list) .number ≡ 0
-unfolding listedSearch listedSegment afterOpening
-search-accepted list = opened-accepted (openList list 2400 false) (openList-well list 2400 false)

@@ -5,7 +5,7 @@ use Prim.Native.Nat.{ℕ}
 use lib.Ieee.{round, sub}
 use Rattle.frame.specs.Frame.{sum, encode, parseShort, parseBody, parseLong, parse}
 use Rattle.values.specs.Values.{little, bcd}
-use Rattle.identity.specs.Identity.{makerCode, idBytes, nibbles, inBase}
+use Rattle.identity.specs.Identity.{manufacturerCode, idBytes, nibbles, inBase}
 use Rattle.dates.specs.Dates.{typeG, typeF}
 use Rattle.seconds.specs.Seconds.{whole, notBelow0, elapsedOf}
 use Rattle.meter.specs.Meter.{hears, put}
@@ -17,7 +17,7 @@ use Rattle.hear.specs.Hear.{target, nke, request, select, commanded, listens, h
 use Rattle.meter.specs.Meter.{rates}
 use Rattle.rules.specs.Tables.{media, faults}
 use Rattle.meter_list.specs.Layout.{readTexts, readRecords}
-use Rattle.rules.specs.Check.{goodId, goodMaker, check}
+use Rattle.rules.specs.Check.{goodId, goodManufacturer, check}
 use Rattle.scenarios.specs.Opening.{capacity, openRecords, openList}
 use Rattle.fresh_meter.specs.Fresh.{otherThanBus, ownBaud, seedOf, fresh}
 use Rattle.bus.specs.Plain.{blank}
@@ -33,7 +33,7 @@ use Rattle.listing_text.specs.Listing.{listedSegment, listingClock, lent
 
 -- to unfold this is to unfold every definition that a listing computes with
 everything : ℕ
-unfolding sum encode parseShort parseBody parseLong parse little bcd typeG typeF makerCode idBytes nibbles inBase whole notBelow0 elapsedOf round sub hears put alike matches asked fixedData head clockF heatFirst heatSecond electricity water userData response damaged readout rates target nke request select commanded listens hear media faults readTexts readRecords goodId goodMaker check capacity otherThanBus ownBaud seedOf fresh openRecords openList blank joined heardBy handled steps settled afterOpening goodClock send maskDigits mask reading ask probe good idOf entryOf read ten walk wholeWalk searchCall inDecimal numberText line firstLine reportOf refusalOf listedSegment listingClock lentRecords listIn listedSearch listingText
+unfolding sum encode parseShort parseBody parseLong parse little bcd typeG typeF manufacturerCode idBytes nibbles inBase whole notBelow0 elapsedOf round sub hears put alike matches asked fixedData head clockF heatFirst heatSecond electricity water userData response damaged readout rates target nke request select commanded listens hear media faults readTexts readRecords goodId goodManufacturer check capacity otherThanBus ownBaud seedOf fresh openRecords openList blank joined heardBy handled steps settled afterOpening goodClock send maskDigits mask reading ask probe good idOf entryOf read ten walk wholeWalk searchCall inDecimal numberText line firstLine reportOf refusalOf listedSegment listingClock lentRecords listIn listedSearch listingText
 everything = 0
 
 -- water meters 12345678 and 12345699

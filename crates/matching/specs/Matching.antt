@@ -15,16 +15,15 @@ alike [] (v ∷ vs) = false
 alike (d ∷ ds) [] = false
 alike (d ∷ ds) (v ∷ vs) = (eqb d 0xF || eqb d v) && alike ds vs
 
--- "Under eight bytes nothing matches. The first four bytes match the id digit by digit [..]; then FF FF or the manufacturer's code, low byte first;
+-- "Under eight bytes nothing matches. The first four bytes match the id digit by digit"
+abbrev pub idMatches : List ℕ → List ℕ → Bool
+idMatches d digits = leb 8 (length d) && alike (nibbles d) digits
+
+-- ".. ; then FF FF or the manufacturer's code, low byte first;
 -- FF or the version; FF or the medium."
 unfoldable pub matches : List ℕ → PlainMeter → Bool
 matches d m =
-    leb 8 (length d)
-    && alike (nibbles d) (m .digits)
+    idMatches d (m .digits)
     && (eqb (at d 4 + at d 5 * 256) 0xFFFF || eqb (at d 4 + at d 5 * 256) (m .manufacturer))
     && (eqb (at d 6) 0xFF || eqb (at d 6) (m .version))
     && (eqb (at d 7) 0xFF || eqb (at d 7) (m .medium))
-
--- the first of these alone: eight bytes at least, of which four match the id
-abbrev pub idMatches : List ℕ → List ℕ → Bool
-idMatches d digits = leb 8 (length d) && alike (nibbles d) digits

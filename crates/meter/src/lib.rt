@@ -3,7 +3,7 @@ ghost use mathlib.Core.Path.{_≡_};
 ghost use lib.ListN.{getD};
 ghost use Rattle.meter.specs.Meter.{rates};
 
-pub mod hearing; // hearing.rt: whether a telegram is heard, and the changes of a meter's parts
+pub mod changes; // changes.rt: a meter with some of its parts changed, and whether it hears
 
 // The rates that a meter can be set to, by number.
 pub const BAUD_RATES: [u32; 8] = [300, 600, 1200, 2400, 4800, 9600, 19200, 38400];

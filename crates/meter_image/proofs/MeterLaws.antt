@@ -62,16 +62,16 @@ last-back Set = refl
 
 -- the bytes of a meter, by those of its numbers and by its marks
 abbrev row : Meter → List ℕ → List ℕ → List ℕ → List ℕ → ℕ → ℕ → ℕ → ℕ → ℕ → List ℕ
-row m id maker baud seed model fault selected last hearing =
-    m .primary ∷ at id 0 ∷ at id 1 ∷ at id 2 ∷ at id 3 ∷ at maker 0 ∷ at maker 1 ∷ m .version ∷ m .medium ∷ model ∷ fault ∷ m .access ∷ at baud 0 ∷ at baud 1 ∷ at baud 2 ∷ at baud 3
+row m id manufacturer baud seed model fault selected last hearing =
+    m .primary ∷ at id 0 ∷ at id 1 ∷ at id 2 ∷ at id 3 ∷ at manufacturer 0 ∷ at manufacturer 1 ∷ m .version ∷ m .medium ∷ model ∷ fault ∷ m .access ∷ at baud 0 ∷ at baud 1 ∷ at baud 2 ∷ at baud 3
     ∷ selected ∷ m .part ∷ last ∷ m .readouts ∷ at seed 0 ∷ at seed 1 ∷ at seed 2 ∷ at seed 3 ∷ hearing ∷ []
 
-pub bytes-are : (m : Meter) (id maker baud seed : List ℕ) (model fault selected last hearing : ℕ)
-    → id ≡ little 4 (m .id) → maker ≡ little 2 (m .manufacturer) → baud ≡ little 4 (m .baud) → seed ≡ little 4 (m .seed)
+pub bytes-are : (m : Meter) (id manufacturer baud seed : List ℕ) (model fault selected last hearing : ℕ)
+    → id ≡ little 4 (m .id) → manufacturer ≡ little 2 (m .manufacturer) → baud ≡ little 4 (m .baud) → seed ≡ little 4 (m .seed)
     → model ≡ modelByte (m .model) → fault ≡ faultByte (m .fault) → selected ≡ bitIf (m .selected) → last ≡ lastByte (m .last) → hearing ≡ bitIf (m .hearing)
-    → row m id maker baud seed model fault selected last hearing ≡ meterBytes (plainMeter m)
+    → row m id manufacturer baud seed model fault selected last hearing ≡ meterBytes (plainMeter m)
 unfolding meterBytes little
-bytes-are m id maker baud seed model fault selected last hearing e₁ e₂ e₃ e₄ e₅ e₆ e₇ e₈ e₉ = rw (e₁, e₂, e₃, e₄, e₅, e₆, e₇, e₈, e₉, id-little (m .id))
+bytes-are m id manufacturer baud seed model fault selected last hearing e₁ e₂ e₃ e₄ e₅ e₆ e₇ e₈ e₉ = rw (e₁, e₂, e₃, e₄, e₅, e₆, e₇, e₈, e₉, id-little (m .id))
 
 pub meter-long : (m : PlainMeter) → length (meterBytes m) ≡ 25
 unfolding meterBytes little idBytes

@@ -1,4 +1,4 @@
--- Worked examples of a meter's bytes. Assumes nothing.
+-- Worked examples of a meter's bytes.
 use mathlib.Core.Path.{_≡_, refl}
 use mathlib.Core.Bool.{true, false}
 use mathlib.Core.List.{List, [], _∷_}
@@ -16,7 +16,7 @@ low-byte-first : number 4 1 (0xFF ∷ 0x78 ∷ 0x56 ∷ 0x34 ∷ 0x12 ∷ 0xFF �
 unfolding number
 low-byte-first = refl
 
--- a water meter, 12345678 of maker 0x32A7, that misses every second telegram
+-- a water meter, 12345678 of manufacturer 0x32A7, that misses every second telegram
 unfoldable pub a-meter : List ℕ
 a-meter =
     7 ∷ 0x78 ∷ 0x56 ∷ 0x34 ∷ 0x12 ∷ 0xA7 ∷ 0x32 ∷ 1 ∷ 7 ∷ 2 ∷ 5 ∷ 9 ∷ 0x60 ∷ 0x09 ∷ 0 ∷ 0 ∷ 1 ∷ 0 ∷ 2 ∷ 3 ∷ 0xD2 ∷ 0x04 ∷ 0 ∷ 0 ∷ 0 ∷ []

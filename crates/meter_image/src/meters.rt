@@ -145,7 +145,7 @@ pub fn meter_bytes(m: Meter) -> [u8; 25]
     ensures { λ r. ⌜ (r ≡ meterBytes (plainMeter m)) × (metered r ≡ plainMeter m) ⌝ }
 {
     let id = written::four_bytes(m.id);
-    let maker = written::two_bytes(m.manufacturer);
+    let manufacturer = written::two_bytes(m.manufacturer);
     let baud = written::four_bytes(m.baud);
     let seed = written::four_bytes(m.seed);
     let model = m.model;
@@ -157,8 +157,8 @@ pub fn meter_bytes(m: Meter) -> [u8; 25]
         id[1],
         id[2],
         id[3],
-        maker[0],
-        maker[1],
+        manufacturer[0],
+        manufacturer[1],
         m.version,
         m.medium,
         model_byte(model),

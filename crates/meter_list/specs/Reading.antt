@@ -1,4 +1,5 @@
--- The layout read by positions, as the program reads it: what stands at a position of the list's bytes.
+-- The layout read by positions, as the program reads it: what stands at a position of the list's bytes. That the steps give 01's records is proved
+-- (proofs/Steps, `steps-are-records`).
 use mathlib.Core.Bool.{_&&_, _||_, not}
 use mathlib.Core.List.{List}
 use Prim.Native.Nat.{ℕ, _+_, _-_, _*_, _≤_, _<_}
@@ -111,3 +112,9 @@ shapeOf bs =
     if ltb (length bs) 3 || not (eqb (at bs 0) 1) then Unversioned else
     if not (eqb (at bs 1 * 256 + at bs 2) (length bs - 3)) then Unfit else
     shapeOfCount (readRecords (length bs) (drop 3 bs))
+
+-- the number of an opening's refusal that the shape is; a list that fits has none
+abbrev pub shapeNumber : Shape → ℕ
+shapeNumber Unversioned = 1
+shapeNumber Unfit = 2
+shapeNumber (Fits n) = 0

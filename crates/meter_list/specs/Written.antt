@@ -2,7 +2,7 @@
 use mathlib.Core.List.{List, [], _∷_, _++_}
 use Prim.Native.Nat.{ℕ, _/_, _%_, _<_, _^_}
 use lib.ListN.{length}
-use Rattle.laws.specs.Words.{Every}
+use Rattle.laws.specs.Words.{Bytes}
 use Rattle.meter_list.specs.Layout.{Listed}
 
 -- texts, each after a length byte
@@ -34,4 +34,4 @@ writeList rs = 0x01 ∷ length (writeRecords rs) / 256 ∷ length (writeRecords 
 pub record InLayout (r : Listed) : Type 0 where
   pub baud : r .baud < 2 ^ 32
   pub rest : length (writeRest r) < 256
-  pub bytes : Every (λ b. b < 256) (writeRest r)
+  pub bytes : Bytes (writeRest r)

@@ -1,4 +1,4 @@
--- An entry into the lent array. Assumes nothing.
+-- An entry into the lent array.
 use mathlib.Core.Path.{_≡_}
 use mathlib.Core.List.{List}
 use Prim.Native.Nat.{ℕ, _+_, _≤_, _<_}

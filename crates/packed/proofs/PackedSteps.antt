@@ -1,4 +1,4 @@
--- One law for each way through a probe and a row of the packed walk. Assumes nothing.
+-- One law for each way through a probe and a row of the packed walk.
 use mathlib.Core.Path.{_≡_, refl}
 use mathlib.Core.List.{List}
 use Prim.Native.Nat.{ℕ, zero, suc, _+_, _-_, _*_, _/_, _≤_, _<_}

@@ -1,7 +1,8 @@
--- What a mask and a reading do to the marks of packed meters.
+-- What a mask and a reading do to the marks of packed meters. The words are the program's: that they do what sending them to the segment does is proved
+-- (search, proofs/PackedProbe, `probe-packed`, and proofs/PackedRead, `read-packed`).
 -- A mark's bits: 1 selected, 2 reset by a select, 4 hears the next telegram, 8 last FCB clear, 16 at bus baud and steady, 32 at bus baud and flaky,
 -- 64 its reading always fails, 128 too_many; from 256 on the readouts, from 65536 on the access number.
-use mathlib.Core.Bool.{Bool, true, false, _&&_, _||_}
+use mathlib.Core.Bool.{Bool, _&&_, _||_}
 use mathlib.Core.List.{List, [], _∷_}
 use Prim.Native.Nat.{ℕ, zero, suc, _+_, _-_, _*_, _/_, _%_}
 use lib.Dec.{ltb, eqb}
@@ -37,7 +38,7 @@ masked low high key s = marked s (bitIf (within low high key))
 unfoldable pub readBy : ℕ → ℕ → ℕ
 readBy key s = readMark s
 
--- the acknowledgements, one meter on
+-- the acknowledgements counted so far, with those of the next meter
 unfoldable pub acked : ℕ → ℕ → ℕ → ℕ → ℕ → ℕ
 acked low high n key s = n + masked low high key s % 2
 
@@ -45,7 +46,7 @@ acked low high n key s = n + masked low high key s % 2
 unfoldable pub readable : ℕ → Bool
 readable s = eqb (s / 64 % 2) 0 && (eqb (s / 128 % 2) 0 || ltb (s / 256 % 256) 2)
 
--- what was read, one meter on: a good reply's id behind a 1
+-- what was read so far, with what the next meter replies: a good reply's id behind a 1
 unfoldable pub readKey : ℕ → ℕ → ℕ → ℕ
 readKey id key s = if eqb (yesOf s (s % 2)) 1 && readable s then 0x100000000 + key else id
 

@@ -3,10 +3,10 @@ use mathlib.Core.Path.{_≡_, refl, sym, ap, _∙_}
 use mathlib.Core.List.{List, _++_}
 use Prim.Native.Nat.{ℕ, _-_, _/_, _≤_, _<_}
 use native.Mathlib.Omega.{arith}
-use borrow.Author.Tests.{le-ltb}
 use lib.Bits.{bitXor}
 use lib.ListN.{length, take, drop, set, getD, length-take}
 use lib.Seq.{take-at, take-all, take-take, take-set-lt, getD-take, length-take-le}
+use Rattle.telegram_writer.proofs.WritingLaws.{write-fits}
 use Rattle.frame.specs.Frame.{Telegram, long, encode, dataOf}
 use Rattle.frame.proofs.RoundTrip.{length-long}
 use Rattle.telegram_writer.specs.Writer as definitions
@@ -16,16 +16,11 @@ use Rattle.telegram_writer.specs.declared.Written.{Written}
 use Rattle.readout.specs.Response.{damaged}
 use Rattle.meter.specs.declared.Fault.the-variants.{Checksum, Truncated}
 
-write-fits : (t : Telegram) (was : List ℕ) → length (dataOf t) ≤ 252 → length (encode t) ≤ length was
-    → write t was ≡ record { number = 0; count = length (encode t); lent = encode t ++ drop (length (encode t)) was }
-unfolding write
-write-fits t was h k = rw (le-ltb _ _ h, le-ltb _ _ k)
-
 -- what was written, by the count
 pub sent : (w : Written) (t : Telegram) (was now : List ℕ) → writtenOf w now ≡ write t was → length (dataOf t) ≤ 252 → length (encode t) ≤ length was
     → take (writtenCount w) now ≡ encode t
 sent w t was now e h k =
-    let f : writtenOf w now ≡ record { number = 0; count = length (encode t); lent = encode t ++ drop (length (encode t)) was } = e ∙ write-fits t was h k in
+    let f : writtenOf w now ≡ record { number = 0; count = length (encode t); lent = encode t ++ drop (length (encode t)) was } = e ∙ sym (write-fits t was (length (encode t)) _ refl h k refl) in
     ap (λ (r : definitions.Written). take (r .count) (r .lent)) f ∙ take-at (encode t) (drop (length (encode t)) was) (length (encode t)) refl
 
 -- the same for long data that fit a reply, by the answer v that w is

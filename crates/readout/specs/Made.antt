@@ -1,4 +1,4 @@
--- What the functions say that count a reply's bytes.
+-- What the program's functions come to that count a reply's bytes.
 use mathlib.Core.Path.{_≡_}
 use Prim.Native.Nat.{ℕ, _≤_}
 use lib.ListN.{length, take}

@@ -31,7 +31,7 @@ pub struct Reply {
     pub len: usize,
 }
 
-// How many bytes are held, and said.
+// How many bytes the data have, and the reply.
 fn held_len(d: Data) -> usize
     ensures { λ r. ⌜ HeldLen d r ⌝ }
 {

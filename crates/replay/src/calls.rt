@@ -4,12 +4,9 @@ ghost use lib.ListN.{length};
 use crate::print;
 use crate::script;
 use crate::show;
-use bus::Changing;
 use bus::Segment;
 use clock::Clock;
 use laws::least;
-use search::Outcome;
-use send::Sending;
 
 // The number and the index of 01.
 fn open(segment: Segment, list: &[u8], baud: u32, practice: bool, origin: f64) -> Segment {
@@ -57,22 +54,12 @@ pub(crate) fn open_builtin(segment: Segment, arguments: &[u8]) -> Segment {
     }
 }
 
-// The number of 01.
-fn sending_number(answer: Sending) -> u64 {
-    match answer {
-        Sending::Accepted => 0,
-        Sending::PieceTooLong => 13,
-        Sending::ClockOutOfRange => 14,
-        Sending::QueueFull => 15,
-    }
-}
-
 // A piece behind its length.
 pub(crate) fn send(segment: Segment, clock: Clock, arguments: &[u8]) -> Segment {
     let sent = send::send(segment, script::rest(arguments, 2), clock);
     let answer = sent.answer;
     print::text(b"send");
-    print::next(sending_number(answer));
+    print::next(send::sending_number(answer) as u64);
     print::line();
     sent.segment
 }
@@ -107,31 +94,13 @@ pub(crate) fn clear(segment: Segment) -> Segment {
     bus::clear(segment)
 }
 
-// The number of 01.
-fn changing_number(answer: Changing) -> u64 {
-    match answer {
-        Changing::Accepted => 0,
-        Changing::NoRate => 10,
-    }
-}
-
 pub(crate) fn set_baud(segment: Segment, arguments: &[u8]) -> Segment {
     let changed = bus::set_baud(segment, script::long(arguments));
     let answer = changed.answer;
     print::text(b"baud");
-    print::next(changing_number(answer));
+    print::next(bus::changing_number(answer) as u64);
     print::line();
     changed.segment
-}
-
-// The number of 01.
-fn outcome_number(outcome: Outcome) -> u64 {
-    match outcome {
-        Outcome::Made => 0,
-        Outcome::ClockOutOfRange => 14,
-        Outcome::NotEmpty => 16,
-        Outcome::TooFewLent => 17,
-    }
 }
 
 // The allowance, and how many entries are lent. A line for each entry follows.
@@ -141,7 +110,7 @@ pub(crate) fn find(segment: Segment, clock: Clock, arguments: &[u8]) -> Segment 
     let core = search::search_core(segment, clock, allowance, lent);
     let outcome = core.outcome;
     print::text(b"search");
-    print::next(outcome_number(outcome));
+    print::next(search::outcome_number(outcome) as u64);
     print::next(print::wide(core.count));
     print::next(print::wide32(core.probes));
     print::next(print::bit(core.spent));

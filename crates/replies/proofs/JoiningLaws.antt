@@ -9,8 +9,8 @@ use lib.Dec.{ltb}
 use borrow.Author.Tests.{ltb-true, ltb-false, eqb-true}
 use lib.ListN.{length, take, getD, set, replicate, length-take, length-append, getD-replicate, length-replicate, List·getD-eq-default}
 use lib.Seq.{ext-getD, getD-take, length-take-le}
-use Rattle.laws.specs.Words.{if_then_else_, Every}
-use Rattle.laws.proofs.Lists.{every-append, and-l, and-r}
+use Rattle.laws.specs.Words.{if_then_else_, Every, Bytes}
+use Rattle.laws.proofs.Lists.{every-append, and-l, and-r, every-take}
 use Rattle.readout.specs.declared.Reply.{Reply}
 use Rattle.hear.specs.Hear.{E5}
 use Rattle.replies.specs.declared.Joining.{Joining}
@@ -19,19 +19,11 @@ use Rattle.replies.specs.Joining.{replyMost, Joins, JoinsAck, JoinsReply
 use Rattle.replies.proofs.JoinLaws.{length-places}
 use Rattle.replies.proofs.OverlayLaws.{overlays-none, overlays-more, and-FF, overlaid-small, overlaid-more, allE5-more, longest-more}
 
-abbrev Small : List ℕ → Type 0
-Small r = Every (λ b. b < 256) r
-
-pub small-all : (l : List ℕ) → ((i : ℕ) → getD l i 0 < 256) → Small l
+pub small-all : (l : List ℕ) → ((i : ℕ) → getD l i 0 < 256) → Bytes l
 small-all [] h = tt
 small-all (b ∷ l) h = (h 0, small-all l (λ i. h (suc i)))
 
-small-take : (n : ℕ) (l : List ℕ) → Small l → Small (take n l)
-small-take zero l h = tt
-small-take (suc n) [] h = tt
-small-take (suc n) (b ∷ l) h = (h .0, small-take n l (h .1))
-
-small-at : (l : List ℕ) (i : ℕ) → Small l → getD l i 0xFF < 256
+small-at : (l : List ℕ) (i : ℕ) → Bytes l → getD l i 0xFF < 256
 small-at [] i h = omega arith
 small-at (b ∷ l) zero h = h .0
 small-at (b ∷ l) (suc i) h = small-at l i (h .1)
@@ -54,7 +46,7 @@ count-more n h = omega arith
 
 module _ {rs : List (List ℕ)} {j : Joining} {old new bytes : List ℕ} where
   -- a reply, laid over those before it
-  pub joins-more : (n : ℕ) {len : ℕ} {a : Bool} {k : Joining} → Joins rs j old → length bytes ≡ replyMost → Small bytes → len ≡ min n replyMost → a ≡ isE5 (take n bytes) → Overlays old bytes len new
+  pub joins-more : (n : ℕ) {len : ℕ} {a : Bool} {k : Joining} → Joins rs j old → length bytes ≡ replyMost → Bytes bytes → len ≡ min n replyMost → a ≡ isE5 (take n bytes) → Overlays old bytes len new
       → k ≡ record { count = j .count + 1; acks = j .acks && a; len = max (j .len) len } → Joins (rs ++ take n bytes ∷ []) k new
   joins-more n {len} {a} {k} s room small e ack o is =
       let l : length (take n bytes) ≡ len = omega (arith, length-take n bytes) in
@@ -64,7 +56,7 @@ module _ {rs : List (List ℕ)} {j : Joining} {old new bytes : List ℕ} where
         len = ap (λ x. x .len) is ∙ omega (arith, s .len, longest-more rs (take n bytes));
         fits = omega (arith, s .fits, ap (λ x. x .len) is);
         room = o .room ∙ s .room;
-        small = every-append Small rs (take n bytes ∷ []) (s .small) (small-take n bytes small, tt);
+        small = every-append Bytes rs (take n bytes ∷ []) (s .small) (every-take (λ b. b < 256) n bytes small, tt);
         and = λ i h. go i h (ltb i len) refl ∙ sym (overlaid-more rs (take n bytes) i);
       }
     where
@@ -102,13 +94,13 @@ places-kept rs j bytes s =
     (λ i h. let q = s .fits in getD-places (overlaid rs) 0 (longest rs) i 0xFF (omega arith) ∙ ap (overlaid rs) (omega arith) ∙ sym (getD-take (j .len) bytes i 0xFF (omega arith) ∙ s .and i (omega arith)))
 
 -- a lone reply is overlaid by nothing
-places-one : (r : List ℕ) → Small r → places (overlaid (r ∷ [])) 0 (length r) ≡ r
+places-one : (r : List ℕ) → Bytes r → places (overlaid (r ∷ [])) 0 (length r) ≡ r
 places-one r h =
     let p = length-places (overlaid (r ∷ [])) 0 (length r) in
     ext-getD 0xFF (places (overlaid (r ∷ [])) 0 (length r)) r p
     (λ i l. getD-places (overlaid (r ∷ [])) 0 (length r) i 0xFF (omega arith) ∙ ap (overlaid (r ∷ [])) (omega arith) ∙ and-FF (getD r i 0xFF) (small-at r i h))
 
-joined-as : (rs : List (List ℕ)) → Every Small rs → joined rs ≡ (if allE5 rs then replicate (length rs) 0xE5 else places (overlaid rs) 0 (longest rs))
+joined-as : (rs : List (List ℕ)) → Every Bytes rs → joined rs ≡ (if allE5 rs then replicate (length rs) 0xE5 else places (overlaid rs) 0 (longest rs))
 unfolding joined
 joined-as [] h = refl
 joined-as (r ∷ []) h = go (allE5 (r ∷ [])) refl

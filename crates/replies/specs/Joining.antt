@@ -1,11 +1,11 @@
--- What the program keeps of the replies that it has joined so far.
+-- What the program keeps of the replies that it has joined so far. That it comes to 01's joining is proved (proofs/JoiningLaws, `joined-is`).
 use mathlib.Core.Path.{_≡_}
 use mathlib.Core.Bool.{_&&_}
 use mathlib.Core.List.{List}
 use Prim.Native.Nat.{ℕ, _+_, _%_, _^_, _≤_, _<_, min, max}
 use lib.Bits.{bitAnd}
 use lib.ListN.{length, take, getD, set, replicate}
-use Rattle.laws.specs.Words.{if_then_else_, Every}
+use Rattle.laws.specs.Words.{if_then_else_, Every, Bytes}
 use Rattle.readout.specs.declared.Reply.{Reply}
 use Rattle.replies.specs.declared.Joining.{Joining}
 use Rattle.replies.specs.Replies.{isE5, allE5, longest, overlaid}
@@ -21,7 +21,7 @@ pub record Joins (rs : List (List ℕ)) (j : Joining) (bytes : List ℕ) : Type 
   pub len : j .len ≡ longest rs
   pub fits : j .len ≤ replyMost
   pub room : length bytes ≡ replyMost
-  pub small : Every (λ r. Every (λ b. b < 256) r) rs
+  pub small : Every Bytes rs
   pub and : (i : ℕ) → i < replyMost → getD bytes i 0xFF ≡ overlaid rs i
 
 -- how long the joined reply is, and its bytes: all E5, end to end; else the AND
@@ -46,4 +46,4 @@ pub record JoinsAck (j : Joining) (old : List ℕ) (r : Joining) (new : List ℕ
 pub record JoinsReply (j : Joining) (reply : Reply) (old : List ℕ) (r : Joining) (new : List ℕ) : Type 0 where
   pub kept : r ≡ record { count = (j .count + 1) % 2 ^ 64; acks = j .acks && isE5 (take (reply .len) (reply .bytes)); len = max (j .len) (min (reply .len) replyMost) }
   pub bytes : length old ≡ replyMost → Overlays old (reply .bytes) (min (reply .len) replyMost) new
-  pub array : (length (reply .bytes) ≡ replyMost) × Every (λ b. b < 256) (reply .bytes)
+  pub array : (length (reply .bytes) ≡ replyMost) × Bytes (reply .bytes)

@@ -7,7 +7,7 @@ ghost use Rattle.replies.specs.Joining.{JoinsAck, JoinsReply, Overlays, 
 use laws::least;
 use readout::Reply;
 
-// As many bytes as a meter's reply can have.
+// The places of the array that a reply stands in.
 pub const REPLY: usize = 96;
 
 // How many replies there are so far, whether all are E5, and how long the longest is.

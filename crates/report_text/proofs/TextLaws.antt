@@ -5,8 +5,8 @@ use Prim.Native.Nat.{ℕ, zero, suc, _+_, _-_, _*_, _/_, _%_, _^_, _≤_, _<_, m
 use native.Mathlib.Nat.{zero-add, div-lt-iff-lt-mul, pow-suc, le-of-suc-le-suc, not-suc-le-zero}
 use native.Mathlib.Numerals.{add-one}
 use native.Mathlib.Omega.{arith}
-use lib.ListN.{length, take, drop, set, getD, length-append, length-take, length-drop, length-set, drop-of-length-le}
-use lib.Seq.{paste, paste-zero, length-paste, length-take-le, take-all, take-length, take-at, drop-at, drop-drop, drop-cons, drop-set-lt, getD-set-same}
+use lib.ListN.{length, take, drop, set, getD, length-append, length-take, length-set, drop-of-length-le}
+use lib.Seq.{paste, paste-zero, length-paste, length-take-le, take-length, take-at, drop-at, drop-drop, drop-cons, drop-set-lt, getD-set-same}
 use borrow.Author.Tests.{le-ltb, lt-ltb}
 use Rattle.laws.proofs.Copy.{Copied, take-min}
 use Rattle.search.specs.declared.EntryRecord.{EntryRecord}

@@ -1,4 +1,4 @@
--- The lines of a report, held to those that the program writes for praxis, and a refused list's line. Assumes nothing.
+-- The lines of a report, held to those that the program writes for praxis, and a refused list's line.
 use mathlib.Core.Path.{_≡_, refl}
 use mathlib.Core.List.{[], _∷_}
 use Rattle.search.specs.declared.Kind.the-variants.{One, Mute, Many}

@@ -5,7 +5,7 @@ use mathlib.Core.List.{List, [], _∷_, _++_, map}
 use Prim.Native.Nat.{ℕ, zero, suc, _+_, _*_, _/_, _%_}
 use lib.Dec.{eqb, ltb}
 use lib.ListN.{length, take, drop}
-use Rattle.laws.specs.Words.{if_then_else_}
+use Rattle.laws.specs.Words.{if_then_else_, each}
 use Rattle.scenarios.specs.Opening.{capacity}
 use Rattle.search.specs.declared.EntryRecord.{EntryRecord}
 use Rattle.search.specs.declared.Kind.{Kind}
@@ -67,8 +67,7 @@ unfoldable pub line : EntryRecord → List ℕ
 line e = word (e .kind) ++ eightDigits (e .digits) ++ countText (e .kind) (e .count) ++ newline
 
 abbrev pub lines : List EntryRecord → List ℕ
-lines [] = []
-lines (e ∷ es) = line e ++ lines es
+lines es = each es line
 
 -- "Line 1: entry count, probes made, in these words for 1 too."
 unfoldable pub firstLine : ℕ → ℕ → List ℕ

@@ -16,7 +16,7 @@ use Rattle.laws.proofs.Sweep.{Folded, folded-none, folded-more, folded-whole}
 use Rattle.meter.specs.Meter.{rates}
 use Rattle.identity.specs.Identity.{inBase}
 use Rattle.rules.specs.Tables.{isRate, medium-heat-old}
-use Rattle.rules.specs.Check.{allWithin, textDigits, goodId, goodMaker}
+use Rattle.rules.specs.Check.{allWithin, textDigits, goodId, goodManufacturer}
 
 -- ---- id
 
@@ -49,17 +49,17 @@ or-false : (b : Bool) → b ≡ b || false
 or-false true = refl
 or-false false = refl
 
-pub maker-none : (t m : List ℕ) {r : Bool} → length t ≡ 0 → r ≡ sameList (medium-heat-old .key) m → r ≡ goodMaker t m
-unfolding goodMaker
-maker-none t m h q = rw (ne-eqb (length t) 3 (λ e. omega arith), eq-eqb (length t) 0 h) q
+pub manufacturer-none : (t m : List ℕ) {r : Bool} → length t ≡ 0 → r ≡ sameList (medium-heat-old .key) m → r ≡ goodManufacturer t m
+unfolding goodManufacturer
+manufacturer-none t m h q = rw (ne-eqb (length t) 3 (λ e. omega arith), eq-eqb (length t) 0 h) q
 
-pub maker-other : (t m : List ℕ) → (length t ≡ 0 → ⊥) → (length t ≡ 3 → ⊥) → false ≡ goodMaker t m
-unfolding goodMaker
-maker-other t m h k = rw (ne-eqb (length t) 3 k, ne-eqb (length t) 0 h)
+pub manufacturer-other : (t m : List ℕ) → (length t ≡ 0 → ⊥) → (length t ≡ 3 → ⊥) → false ≡ goodManufacturer t m
+unfolding goodManufacturer
+manufacturer-other t m h k = rw (ne-eqb (length t) 3 k, ne-eqb (length t) 0 h)
 
-pub maker-three : (t m : List ℕ) {r : Bool} → length t ≡ 3 → r ≡ allWithin 0x41 0x5A t → r ≡ goodMaker t m
-unfolding goodMaker
-maker-three t m {r} h q = rw (eq-eqb (length t) 3 h, ne-eqb (length t) 0 (λ e. omega arith)) (q ∙ or-false (allWithin 0x41 0x5A t))
+pub manufacturer-three : (t m : List ℕ) {r : Bool} → length t ≡ 3 → r ≡ allWithin 0x41 0x5A t → r ≡ goodManufacturer t m
+unfolding goodManufacturer
+manufacturer-three t m {r} h q = rw (eq-eqb (length t) 3 h, ne-eqb (length t) 0 (λ e. omega arith)) (q ∙ or-false (allWithin 0x41 0x5A t))
 
 -- ---- own baud
 
@@ -113,16 +113,3 @@ module _ {b i n : ℕ} {t : List ℕ} (s : DigitsTo b t i n) (small : b ≤ 16) 
   pub digits-all : length t ≡ 8 → 8 ≤ i → n ≡ inBase b (textDigits t)
   unfolding inBase
   digits-all l h = folded-whole (s .is) (omega arith) ∙ fold-map b 0 t
-
--- what holds of every eight numbers holds of a list of eight
-pub eight : (P : List ℕ → Type 0) → ((a b c d e f g h : ℕ) → P (a ∷ b ∷ c ∷ d ∷ e ∷ f ∷ g ∷ h ∷ [])) → (t : List ℕ) → length t ≡ 8 → P t
-eight P k [] l = absurd (omega arith)
-eight P k (a ∷ []) l = absurd (omega arith)
-eight P k (a ∷ b ∷ []) l = absurd (omega arith)
-eight P k (a ∷ b ∷ c ∷ []) l = absurd (omega arith)
-eight P k (a ∷ b ∷ c ∷ d ∷ []) l = absurd (omega arith)
-eight P k (a ∷ b ∷ c ∷ d ∷ e ∷ []) l = absurd (omega arith)
-eight P k (a ∷ b ∷ c ∷ d ∷ e ∷ f ∷ []) l = absurd (omega arith)
-eight P k (a ∷ b ∷ c ∷ d ∷ e ∷ f ∷ g ∷ []) l = absurd (omega arith)
-eight P k (a ∷ b ∷ c ∷ d ∷ e ∷ f ∷ g ∷ h ∷ []) l = k a b c d e f g h
-eight P k (a ∷ b ∷ c ∷ d ∷ e ∷ f ∷ g ∷ h ∷ i ∷ t) l = absurd (omega arith)

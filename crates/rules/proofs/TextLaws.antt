@@ -1,38 +1,17 @@
 -- Texts compared byte by byte, and looked up among keys: the loops' invariants, their turns and their ends.
 use mathlib.Core.Path.{_≡_, refl, sym, ap, ap₂, _∙_}
-use mathlib.Core.Bool.{Bool, true, false, _&&_, _||_, and-false}
+use mathlib.Core.Bool.{true, false, _&&_, _||_, and-false}
 use mathlib.Core.List.{List, [], _∷_}
-use Prim.Native.Nat.{ℕ, suc, _+_, _-_, _≤_, _<_, min}
-use native.Mathlib.Nat.{min-eq-left, min-eq-right}
+use Prim.Native.Nat.{ℕ, suc, _+_, _-_, _≤_, _<_}
 use native.Mathlib.Numerals.{add-one}
 use native.Mathlib.Omega.{arith}
 use lib.Dec.{eqb, leb}
-use lib.ListN.{length, take, drop, length-drop, drop-of-length-le}
-use lib.Seq.{drop-cons, take-nil}
-use borrow.Author.Tests.{leb-true, leb-false, eq-eqb, ne-eqb, le-leb, lt-leb}
+use lib.ListN.{length, drop, drop-of-length-le}
+use lib.Seq.{drop-cons}
+use borrow.Author.Tests.{eq-eqb, ne-eqb, le-leb, lt-leb}
 use Rattle.laws.specs.Words.{at, sameList}
-use Rattle.laws.proofs.Copy.{take-min}
 use Rattle.rules.specs.Tables.{isRate}
 use Rattle.rules.specs.Check.{allWithin}
-
--- ---- the bytes of a text
-
-pub text-is : (s : List ℕ) (start len x y : ℕ) → x ≡ min start (length s) → y ≡ min len (length s - x) → take (x + y - x) (drop x s) ≡ take len (drop start s)
-text-is s start len x y p q = go (leb start (length s)) refl
-  where
-    w : x + y - x ≡ y
-    w = omega arith
-
-    go : (b : Bool) → leb start (length s) ≡ b → take (x + y - x) (drop x s) ≡ take len (drop start s)
-    go true t =
-        let e : x ≡ start = p ∙ min-eq-left (leb-true start (length s) t) in
-        let f : y ≡ min len (length (drop start s)) = q ∙ ap (λ (k : ℕ). min len (length s - k)) e ∙ ap (min len) (sym (length-drop start s)) in
-        ap₂ (λ k m. take k (drop m s)) (w ∙ f) e ∙ take-min len (drop start s)
-    go false t =
-        let l : length s ≤ start = omega (arith, leb-false start (length s) t) in
-        let e : x ≡ length s = p ∙ min-eq-right l in
-        let m : length s ≤ x = omega arith in
-        ap (take (x + y - x)) (drop-of-length-le s m) ∙ take-nil (x + y - x) ∙ sym (ap (take len) (drop-of-length-le s l) ∙ take-nil len)
 
 -- ---- the same text
 

@@ -10,11 +10,11 @@ use Rattle.laws.specs.Words.{if_then_else_}
 use Rattle.meter.specs.Meter.{rates}
 use Rattle.meter.specs.declared.Fault.{Fault}
 use Rattle.meter.specs.declared.Model.{Model}
-use Rattle.identity.specs.Identity.{makerCode, inBase}
+use Rattle.identity.specs.Identity.{manufacturerCode, inBase}
 use Rattle.rules.specs.Tables.{Medium, media, faults, isMedium, isFault, isRate, mediumOf, faultOf, medium-water, fault-none}
 use Rattle.rules.specs.Keys.{place, mediaKeys, faultKeys}
 use Rattle.meter_list.specs.Layout.{Listed}
-use Rattle.rules.specs.Check.{textDigits, goodId, goodMaker, check}
+use Rattle.rules.specs.Check.{textDigits, goodId, goodManufacturer, check}
 use Rattle.rules.specs.Checked.{ownOf, valuesOf, failNumber, failingOf, checkedOf, CheckGives}
 use Rattle.rules.specs.declared.OwnBaud.{OwnBaud}
 use Rattle.rules.specs.declared.Values.{Values}
@@ -56,26 +56,26 @@ module _ (l : Listed) {i m d f : List ℕ} (t : TextsOf l i m d f) (h : l .prima
     a′ : goodId (l .id) ≡ true
     a′ = sym (ap goodId (t .id)) ∙ a
 
-    maker-is : goodMaker (l .manufacturer) (l .medium) ≡ goodMaker m d
-    maker-is = rw (← t .manufacturer, ← t .medium)
+    manufacturer-is : goodManufacturer (l .manufacturer) (l .medium) ≡ goodManufacturer m d
+    manufacturer-is = rw (← t .manufacturer, ← t .medium)
 
-    pub gives-maker : goodMaker m d ≡ false → CheckGives l (Fails BadManufacturer)
+    pub gives-manufacturer : goodManufacturer m d ≡ false → CheckGives l (Fails BadManufacturer)
     unfolding check
-    gives-maker b = fails l BadManufacturer (rw (le-ltb 250 (l .primary) h, a′, maker-is ∙ b))
+    gives-manufacturer b = fails l BadManufacturer (rw (le-ltb 250 (l .primary) h, a′, manufacturer-is ∙ b))
 
-    module _ (b : goodMaker m d ≡ true) {k : ℕ} (kd : k ≡ place mediaKeys d) where
+    module _ (b : goodManufacturer m d ≡ true) {k : ℕ} (kd : k ≡ place mediaKeys d) where
       medium-is : isMedium media (l .medium) ≡ ltb k 8
       unfolding media mediaKeys
       medium-is = is-medium media (l .medium) ∙ ap (λ (x : ℕ). ltb x 8) (sym (kd ∙ ap (place mediaKeys) (t .medium)))
 
       pub gives-medium : 8 ≤ k → CheckGives l (Fails BadMedium)
       unfolding check
-      gives-medium c = fails l BadMedium (rw (le-ltb 250 (l .primary) h, a′, maker-is ∙ b, medium-is ∙ le-ltb k 8 c))
+      gives-medium c = fails l BadMedium (rw (le-ltb 250 (l .primary) h, a′, manufacturer-is ∙ b, medium-is ∙ le-ltb k 8 c))
 
       module _ (c : k < 8) where
         pub gives-baud : eqb (l .baud) 0 || isRate rates (l .baud) ≡ false → CheckGives l (Fails BadBaud)
         unfolding check
-        gives-baud e = fails l BadBaud (rw (le-ltb 250 (l .primary) h, a′, maker-is ∙ b, medium-is ∙ lt-ltb k 8 c, e))
+        gives-baud e = fails l BadBaud (rw (le-ltb 250 (l .primary) h, a′, manufacturer-is ∙ b, medium-is ∙ lt-ltb k 8 c, e))
 
         module _ (e : eqb (l .baud) 0 || isRate rates (l .baud) ≡ true) {n : ℕ} (nf : n ≡ place faultKeys f) where
           fault-is : isFault faults (l .fault) ≡ ltb n 7
@@ -84,11 +84,11 @@ module _ (l : Listed) {i m d f : List ℕ} (t : TextsOf l i m d f) (h : l .prima
 
           pub gives-fault : 7 ≤ n → CheckGives l (Fails BadFault)
           unfolding check
-          gives-fault g = fails l BadFault (rw (le-ltb 250 (l .primary) h, a′, maker-is ∙ b, medium-is ∙ lt-ltb k 8 c, e, fault-is ∙ le-ltb n 7 g))
+          gives-fault g = fails l BadFault (rw (le-ltb 250 (l .primary) h, a′, manufacturer-is ∙ b, medium-is ∙ lt-ltb k 8 c, e, fault-is ∙ le-ltb n 7 g))
 
           passes : n < 7 → check l ≡ 0
           unfolding check
-          passes g = rw (le-ltb 250 (l .primary) h, a′, maker-is ∙ b, medium-is ∙ lt-ltb k 8 c, e, fault-is ∙ lt-ltb n 7 g)
+          passes g = rw (le-ltb 250 (l .primary) h, a′, manufacturer-is ∙ b, medium-is ∙ lt-ltb k 8 c, e, fault-is ∙ lt-ltb n 7 g)
 
           row : getD media k medium-water ≡ mediumOf media (l .medium)
           unfolding mediaKeys
@@ -98,13 +98,13 @@ module _ (l : Listed) {i m d f : List ℕ} (t : TextsOf l i m d f) (h : l .prima
           unfolding faultKeys
           kind = ap (λ (x : ℕ). getD faults x fault-none .fault) (nf ∙ ap (place faultKeys) (t .fault)) ∙ sym (fault-of faults (l .fault))
 
-          values-are : {o : OwnBaud} {x y z w : ℕ} {u : Model} {v : Fault} → o ≡ ownOf (l .baud) → x ≡ inBase 16 (textDigits i) → y ≡ inBase 10 (textDigits i) → z ≡ makerCode m
+          values-are : {o : OwnBaud} {x y z w : ℕ} {u : Model} {v : Fault} → o ≡ ownOf (l .baud) → x ≡ inBase 16 (textDigits i) → y ≡ inBase 10 (textDigits i) → z ≡ manufacturerCode m
               → w ≡ mediumOf media (l .medium) .code → u ≡ mediumOf media (l .medium) .model → v ≡ faultOf faults (l .fault)
               → _≡_ {A = Values} (record { primary = l .primary; version = l .version; baud = o; id = x; number = y; manufacturer = z; medium = w; model = u; fault = v }) (valuesOf l)
           unfolding valuesOf
           values-are b p q r o j s = rw (b, p, q, r, o, j, s, t .id, t .manufacturer)
 
-          pub gives-values : n < 7 → {o : OwnBaud} {x y z w : ℕ} {u : Model} {v : Fault} → o ≡ ownOf (l .baud) → x ≡ inBase 16 (textDigits i) → y ≡ inBase 10 (textDigits i) → z ≡ makerCode m
+          pub gives-values : n < 7 → {o : OwnBaud} {x y z w : ℕ} {u : Model} {v : Fault} → o ≡ ownOf (l .baud) → x ≡ inBase 16 (textDigits i) → y ≡ inBase 10 (textDigits i) → z ≡ manufacturerCode m
               → w ≡ getD media k medium-water .code → u ≡ getD media k medium-water .model → v ≡ getD faults n fault-none .fault
               → CheckGives l (Passes (record { primary = l .primary; version = l .version; baud = o; id = x; number = y; manufacturer = z; medium = w; model = u; fault = v }))
           gives-values g b p q r o j s =
@@ -118,7 +118,7 @@ module _ (l : Listed) {i m d f : List ℕ} (t : TextsOf l i m d f) (h : l .prima
 -- what a failing record is refused with has its number
 pub check-number : (l : Listed) → (check l ≡ 0 → ⊥) → failNumber (failingOf (check l)) ≡ check l
 unfolding check
-check-number l = go (ltb 250 (l .primary)) (goodId (l .id)) (goodMaker (l .manufacturer) (l .medium)) (isMedium media (l .medium)) (eqb (l .baud) 0 || isRate rates (l .baud)) (isFault faults (l .fault))
+check-number l = go (ltb 250 (l .primary)) (goodId (l .id)) (goodManufacturer (l .manufacturer) (l .medium)) (isMedium media (l .medium)) (eqb (l .baud) 0 || isRate rates (l .baud)) (isFault faults (l .fault))
   where
     -- the verdict over its six tests
     over : Bool → Bool → Bool → Bool → Bool → Bool → ℕ

@@ -14,7 +14,7 @@ abbrev pub allWithin : ℕ → ℕ → List ℕ → Bool
 allWithin lo hi [] = true
 allWithin lo hi (b ∷ bs) = within lo hi b && allWithin lo hi bs
 
--- the digits of an id's text: "The id's digits are its BCD nibbles"
+-- the digits of an id's text, from the characters 0 to 9
 abbrev pub textDigits : List ℕ → List ℕ
 textDigits t = map (λ c. c - 0x30) t
 
@@ -23,15 +23,15 @@ unfoldable pub goodId : List ℕ → Bool
 goodId t = eqb (length t) 8 && allWithin 0x30 0x39 t
 
 -- three capital letters. "An empty manufacturer passes only for heat_old", by the record's own medium text
-unfoldable pub goodMaker : List ℕ → List ℕ → Bool
-goodMaker t medium = (eqb (length t) 3 && allWithin 0x41 0x5A t) || (eqb (length t) 0 && sameList (medium-heat-old .key) medium)
+unfoldable pub goodManufacturer : List ℕ → List ℕ → Bool
+goodManufacturer t medium = (eqb (length t) 3 && allWithin 0x41 0x5A t) || (eqb (length t) 0 && sameList (medium-heat-old .key) medium)
 
 -- "primary over 250; id; manufacturer; medium; own baud; fault". An own baud of 0 is the bus's
 unfoldable pub check : Listed → ℕ
 check r =
     if ltb 250 (r .primary) then 4 else
     if not (goodId (r .id)) then 5 else
-    if not (goodMaker (r .manufacturer) (r .medium)) then 6 else
+    if not (goodManufacturer (r .manufacturer) (r .medium)) then 6 else
     if not (isMedium media (r .medium)) then 7 else
     if not (eqb (r .baud) 0 || isRate rates (r .baud)) then 8 else
     if not (isFault faults (r .fault)) then 9 else

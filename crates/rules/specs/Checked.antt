@@ -1,10 +1,9 @@
 -- What the program's `check` gives: the values of a record that passes, or what it fails with.
 use mathlib.Core.Path.{_≡_}
-use mathlib.Core.List.{List}
 use Prim.Native.Nat.{ℕ}
 use lib.Dec.{eqb}
 use Rattle.laws.specs.Words.{if_then_else_}
-use Rattle.identity.specs.Identity.{makerCode, inBase, decimal}
+use Rattle.identity.specs.Identity.{manufacturerCode, inBase, decimal}
 use Rattle.rules.specs.Tables.{media, faults, mediumOf, faultOf}
 use Rattle.meter_list.specs.Layout.{Listed}
 use Rattle.rules.specs.Check.{textDigits, check}
@@ -29,7 +28,7 @@ valuesOf r =
       baud = ownOf (r .baud);
       id = inBase 16 (textDigits (r .id));
       number = decimal (textDigits (r .id));
-      manufacturer = makerCode (r .manufacturer);
+      manufacturer = manufacturerCode (r .manufacturer);
       medium = mediumOf media (r .medium) .code;
       model = mediumOf media (r .medium) .model;
       fault = faultOf faults (r .fault);

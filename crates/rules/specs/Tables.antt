@@ -1,5 +1,5 @@
 -- "The keys and codes are those of MEDIA, FAULTS and BAUD_RATES": key texts as bytes, codes, and the kinds that the Rust's `model_of` and `fault_of` give. The rates are in `meter`.
-use mathlib.Core.Bool.{Bool, true, false, _&&_, _||_}
+use mathlib.Core.Bool.{Bool, false, _||_}
 use mathlib.Core.List.{List, [], _∷_}
 use Prim.Native.Nat.{ℕ}
 use lib.Dec.{eqb}

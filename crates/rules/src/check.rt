@@ -5,7 +5,7 @@ ghost use Prim.Native.Nat.{_-_, _≤_, _<_};
 ghost use lib.Dec.{eqb};
 ghost use Rattle.meter.specs.Meter.{rates};
 ghost use Rattle.rules.specs.Tables.{isRate};
-ghost use Rattle.rules.specs.Check.{goodId, goodMaker, textDigits};
+ghost use Rattle.rules.specs.Check.{goodId, goodManufacturer, textDigits};
 ghost use Rattle.meter_list.specs.Reading.{listedOf};
 ghost use Rattle.identity.specs.Identity.{inBase};
 ghost use Rattle.rules.specs.Checked.{ownOf, CheckGives};
@@ -37,7 +37,7 @@ fn good_id(t: &[u8]) -> bool
 
 // Three capital letters. An empty one passes only for heat_old.
 fn good_manufacturer(t: &[u8], medium: &[u8]) -> bool
-    ensures { λ r. ⌜ r ≡ goodMaker (now (t .entry)) (now (medium .entry)) ⌝ }
+    ensures { λ r. ⌜ r ≡ goodManufacturer (now (t .entry)) (now (medium .entry)) ⌝ }
 {
     if t.len() == 0 {
         return same_text(b"heat_old", medium);

@@ -17,7 +17,7 @@ use Rattle.meter_list.specs.Layout.{Listed, Layout, fits, noFit, readRecords}
 use Rattle.rules.specs.Check.{allPass}
 use Rattle.scenarios.specs.Opening.{mostMeters, capacity, Opened, opens, refuses, refusesRecord, metersIn, OpeningGives, openRecords, openList}
 use Rattle.fresh_meter.specs.Fresh.{fresh}
-use Rattle.meter_list.specs.Reading.{shapeOfCount, shapeOf}
+use Rattle.meter_list.specs.Reading.{shapeOfCount, shapeOf, shapeNumber}
 use Rattle.scenarios.specs.Gather.{spare, noMeters, gatheredOf}
 use Rattle.refusals.specs.Refusals.{isAccepted}
 use Rattle.scenarios.specs.Given.{MetersGiven}
@@ -35,8 +35,8 @@ use Rattle.scenarios.proofs.TakeInLaws.{Under, all-taken, one-stops}
 
 -- what an opening of the list comes to, by its shape
 abbrev ByShape : List ℕ → ℕ → Bool → Shape → Type 0
-ByShape bs bus practice Unversioned = openList bs bus practice ≡ refuses 1
-ByShape bs bus practice Unfit = openList bs bus practice ≡ refuses 2
+ByShape bs bus practice Unversioned = openList bs bus practice ≡ refuses (shapeNumber Unversioned)
+ByShape bs bus practice Unfit = openList bs bus practice ≡ refuses (shapeNumber Unfit)
 ByShape bs bus practice (Fits n) = (rs : List Listed) × (readFrom bs 3 ≡ fits rs) × (n ≡ length rs) × (openList bs bus practice ≡ openRecords bus practice (fits rs))
 
 pub by-shape : (bs : List ℕ) (bus : ℕ) (practice : Bool) {s : Shape} → s ≡ shapeOf bs → ByShape bs bus practice s

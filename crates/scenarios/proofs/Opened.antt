@@ -4,12 +4,13 @@ use mathlib.Core.Bool.{false}
 use mathlib.Core.List.{[], _∷_}
 use Prim.Native.Nat.{ℕ}
 use lib.ListN.{length}
+use Rattle.meter_list.specs.Written.{writeTexts, writeRest, writeRecords, writeList}
 use Rattle.meter.specs.Meter.{rates}
 use Rattle.identity.specs.Identity.{inBase}
 use Rattle.rules.specs.Tables.{media, faults}
-use Rattle.builtins.specs.Builtins.{praxis, ok10, mfh30, bauds}
+use Rattle.builtins.specs.Builtins.{praxis, ok10, mfh30, bauds, idText}
 use Rattle.meter_list.specs.Layout.{readTexts, readRecords}
-use Rattle.rules.specs.Check.{goodId, goodMaker, check}
+use Rattle.rules.specs.Check.{goodId, goodManufacturer, check}
 use Rattle.scenarios.specs.Opening.{capacity, Opened, opens, metersIn, openRecords, openList}
 use Rattle.fresh_meter.specs.Fresh.{seedOf}
 
@@ -19,19 +20,19 @@ pub record OpensWith (n : ℕ) (o : Opened) : Type 0 where
   pub count : length (metersIn o) ≡ n
 
 pub praxis-opens : OpensWith 20 (openList praxis 2400 false)
-unfolding praxis openList openRecords readRecords readTexts check goodId goodMaker media faults rates capacity
+unfolding praxis idText writeList writeRecords writeRest writeTexts openList openRecords readRecords readTexts check goodId goodManufacturer media faults rates capacity
 praxis-opens = record { is = refl; count = refl }
 
 pub ok10-opens : OpensWith 10 (openList ok10 2400 false)
-unfolding ok10 openList openRecords readRecords readTexts check goodId goodMaker media faults rates capacity
+unfolding ok10 idText writeList writeRecords writeRest writeTexts openList openRecords readRecords readTexts check goodId goodManufacturer media faults rates capacity
 ok10-opens = record { is = refl; count = refl }
 
 pub mfh30-opens : OpensWith 30 (openList mfh30 2400 false)
-unfolding mfh30 openList openRecords readRecords readTexts check goodId goodMaker media faults rates capacity
+unfolding mfh30 idText writeList writeRecords writeRest writeTexts openList openRecords readRecords readTexts check goodId goodManufacturer media faults rates capacity
 mfh30-opens = record { is = refl; count = refl }
 
 pub bauds-opens : OpensWith 8 (openList bauds 2400 false)
-unfolding bauds openList openRecords readRecords readTexts check goodId goodMaker media faults rates capacity
+unfolding bauds idText writeList writeRecords writeRest writeTexts openList openRecords readRecords readTexts check goodId goodManufacturer media faults rates capacity
 bauds-opens = record { is = refl; count = refl }
 
 -- (i) id 12345678: seed 43,672

@@ -6,7 +6,7 @@ use Prim.Native.Nat.{ℕ, zero, suc}
 use Rattle.meter.specs.Meter.{rates}
 use Rattle.rules.specs.Tables.{media, faults}
 use Rattle.meter_list.specs.Layout.{Listed, readTexts, readRecords}
-use Rattle.rules.specs.Check.{goodId, goodMaker, check}
+use Rattle.rules.specs.Check.{goodId, goodManufacturer, check}
 use Rattle.scenarios.specs.Opening.{capacity, Opened, refuses, refusesRecord, openRecords, openList}
 
 -- a list of one record, refused by it with this number
@@ -67,22 +67,22 @@ gas = 0x03 ∷ 0x67 ∷ 0x61 ∷ 0x73 ∷ []
 
 -- no manufacturer, and the medium is not heat_old
 pub refused-6 : RefusedBy (openList (0x01 ∷ 0x00 ∷ 0x13 ∷ 0x12 ∷ 0x00 ∷ 0x00 ∷ 0x00 ∷ 0x00 ∷ 0x00 ∷ 0x00 ∷ id ++ 0x00 ∷ 0x00 ∷ 0x00 ∷ []) 2400 false) 6
-unfolding openList openRecords readRecords readTexts check goodId goodMaker capacity
+unfolding openList openRecords readRecords readTexts check goodId goodManufacturer capacity
 refused-6 = record { r = _; is = refl; number = refl }
 
 -- no medium
 pub refused-7 : RefusedBy (openList (0x01 ∷ 0x00 ∷ 0x16 ∷ 0x15 ∷ 0x00 ∷ 0x00 ∷ 0x00 ∷ 0x00 ∷ 0x00 ∷ 0x00 ∷ id ++ kam ++ 0x00 ∷ 0x00 ∷ []) 2400 false) 7
-unfolding openList openRecords readRecords readTexts check goodId goodMaker media capacity
+unfolding openList openRecords readRecords readTexts check goodId goodManufacturer media capacity
 refused-7 = record { r = _; is = refl; number = refl }
 
 -- own baud 1
 pub refused-8 : RefusedBy (openList (0x01 ∷ 0x00 ∷ 0x19 ∷ 0x18 ∷ 0x00 ∷ 0x00 ∷ 0x00 ∷ 0x00 ∷ 0x00 ∷ 0x01 ∷ id ++ kam ++ gas ++ 0x00 ∷ []) 2400 false) 8
-unfolding openList openRecords readRecords readTexts check goodId goodMaker media rates capacity
+unfolding openList openRecords readRecords readTexts check goodId goodManufacturer media rates capacity
 refused-8 = record { r = _; is = refl; number = refl }
 
 -- no fault
 pub refused-9 : RefusedBy (openList (0x01 ∷ 0x00 ∷ 0x19 ∷ 0x18 ∷ 0x00 ∷ 0x00 ∷ 0x00 ∷ 0x00 ∷ 0x00 ∷ 0x00 ∷ id ++ kam ++ gas ++ 0x00 ∷ []) 2400 false) 9
-unfolding openList openRecords readRecords readTexts check goodId goodMaker media faults rates capacity
+unfolding openList openRecords readRecords readTexts check goodId goodManufacturer media faults rates capacity
 refused-9 = record { r = _; is = refl; number = refl }
 
 -- `01 00 00` is a list of no meters, at 0 Bd

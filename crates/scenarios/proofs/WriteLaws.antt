@@ -8,7 +8,6 @@ use lib.ListN.{length, drop, length-append}
 use lib.Seq.{take-append-seam, drop-append-seam}
 use borrow.Author.Tests.{le-leb, le-ltb, eq-eqb}
 use Rattle.laws.specs.Words.{Every}
-use Rattle.laws.proofs.Lists.{every-append}
 use Rattle.meter_list.specs.Layout.{Listed, texts, firstText, readTexts, fits, made, readRecords}
 use Rattle.scenarios.specs.Opening.{openRecords, openList}
 use Rattle.meter_list.specs.Written.{writeTexts, writeRest, writeRecords, writeList, InLayout}
@@ -83,13 +82,3 @@ list-back rs bus practice k h =
       eq-eqb (length (writeRecords rs) / 256 * 256 + length (writeRecords rs) % 256) (suc (suc (suc (length (writeRecords rs)))) - 3) c,
       records-back (suc (suc (suc (length (writeRecords rs))))) rs f k,
     )
-
--- and it is a list of bytes
-records-bytes : (rs : List Listed) → Every InLayout rs → Every (λ b. b < 256) (writeRecords rs)
-unfolding writeRecords
-records-bytes [] k = tt
-records-bytes (r ∷ rs) k = (k .0 .rest, every-append (λ b. b < 256) (writeRest r) (writeRecords rs) (k .0 .bytes) (records-bytes rs (k .1)))
-
-pub list-bytes : (rs : List Listed) → Every InLayout rs → length (writeRecords rs) < 0x10000 → Every (λ b. b < 256) (writeList rs)
-unfolding writeList
-list-bytes rs k h = (omega arith, (omega arith, (omega arith, records-bytes rs k)))

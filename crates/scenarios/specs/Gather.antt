@@ -1,5 +1,6 @@
--- What the program makes of the list's records, one after another: its meters, or the first record that fails.
-use mathlib.Core.Bool.{Bool, true, false}
+-- What the program makes of the list's records, one after another: its meters, or the first record that fails. That it comes to 01's opening is proved
+-- (proofs/GivenLaws).
+use mathlib.Core.Bool.{Bool, false}
 use mathlib.Core.List.{List}
 use Prim.Native.Nat.{ℕ, zero, suc, _+_}
 use lib.Dec.{ltb}

@@ -13,7 +13,7 @@ use Rattle.meter_list.specs.Layout.{Listed, Layout, fits, noFit, readRecords}
 use Rattle.rules.specs.Check.{check, allPass}
 use Rattle.fresh_meter.specs.Fresh.{fresh}
 
--- "At most 64 meters.": as the number that an array's length is, and as a word that does not compute
+-- "At most 64 meters.": as the number that an array's length is, and as a word that the checker does not replace by 64
 abbrev pub mostMeters : ℕ
 mostMeters = 64
 

@@ -5,12 +5,13 @@ use Prim.Native.Nat.{ℕ, zero, suc, _+_, _*_, _/_, _%_, _≤_, _<_}
 use native.Mathlib.Omega.{arith}
 use lib.ListN.{length}
 use Rattle.laws.specs.Words.{Every}
-use Rattle.identity.specs.Identity.{digitsOf}
+use Rattle.laws.specs.Sweep.{fold}
+use Rattle.identity.specs.Identity.{inBase, digitsOf}
+use Rattle.identity.proofs.IdentityLaws.{nibbles-back}
 
 -- digits behind a number, base 16: what the code computes
 abbrev pub keyFrom : ℕ → List ℕ → ℕ
-keyFrom a [] = a
-keyFrom a (d ∷ ds) = keyFrom (a * 16 + d) ds
+keyFrom a ds = fold (λ (n : ℕ) (d : ℕ). n * 16 + d) a ds
 
 abbrev pub Nibbles : List ℕ → Type 0
 Nibbles = Every (λ d. d < 16)
@@ -44,48 +45,9 @@ pub digits-nibbles : (n : ℕ) → Nibbles (digitsOf n)
 unfolding digitsOf
 digits-nibbles n = omega arith
 
-last-digit : (q d : ℕ) → d < 16 → ((q * 16 + d) / 16 ≡ q) × ((q * 16 + d) % 16 ≡ d)
-last-digit q d h = (omega arith, omega arith)
-
-eight : {a b c d e f g h a′ b′ c′ d′ e′ f′ g′ h′ : ℕ} → a ≡ a′ → b ≡ b′ → c ≡ c′ → d ≡ d′ → e ≡ e′ → f ≡ f′ → g ≡ g′ → h ≡ h′
-    → _≡_ {A = List ℕ} (a ∷ b ∷ c ∷ d ∷ e ∷ f ∷ g ∷ h ∷ []) (a′ ∷ b′ ∷ c′ ∷ d′ ∷ e′ ∷ f′ ∷ g′ ∷ h′ ∷ [])
-eight a b c d e f g h = λ i. a i ∷ b i ∷ c i ∷ d i ∷ e i ∷ f i ∷ g i ∷ h i ∷ []
-
 pub digits-key : (ds : List ℕ) → length ds ≡ 8 → Nibbles ds → digitsOf (keyFrom 0 ds) ≡ ds
-unfolding digitsOf
-digits-key [] l n = absurd (omega arith)
-digits-key (a ∷ []) l n = absurd (omega arith)
-digits-key (a ∷ b ∷ []) l n = absurd (omega arith)
-digits-key (a ∷ b ∷ c ∷ []) l n = absurd (omega arith)
-digits-key (a ∷ b ∷ c ∷ d ∷ []) l n = absurd (omega arith)
-digits-key (a ∷ b ∷ c ∷ d ∷ e ∷ []) l n = absurd (omega arith)
-digits-key (a ∷ b ∷ c ∷ d ∷ e ∷ f ∷ []) l n = absurd (omega arith)
-digits-key (a ∷ b ∷ c ∷ d ∷ e ∷ f ∷ g ∷ []) l n = absurd (omega arith)
-digits-key (a ∷ b ∷ c ∷ d ∷ e ∷ f ∷ g ∷ h ∷ x ∷ ds) l n = absurd (omega arith)
-digits-key (a ∷ b ∷ c ∷ d ∷ e ∷ f ∷ g ∷ h ∷ []) l n =
-    let q1 : ℕ = 0 * 16 + a in
-    let q2 : ℕ = q1 * 16 + b in
-    let q3 : ℕ = q2 * 16 + c in
-    let q4 : ℕ = q3 * 16 + d in
-    let q5 : ℕ = q4 * 16 + e in
-    let q6 : ℕ = q5 * 16 + f in
-    let q7 : ℕ = q6 * 16 + g in
-    let w = digit-chain (q7 * 16 + h) in
-    let s8 = last-digit q7 h (n .1 .1 .1 .1 .1 .1 .1 .0) in
-    let s7 = last-digit q6 g (n .1 .1 .1 .1 .1 .1 .0) in
-    let s6 = last-digit q5 f (n .1 .1 .1 .1 .1 .0) in
-    let s5 = last-digit q4 e (n .1 .1 .1 .1 .0) in
-    let s4 = last-digit q3 d (n .1 .1 .1 .0) in
-    let s3 = last-digit q2 c (n .1 .1 .0) in
-    let s2 = last-digit q1 b (n .1 .0) in
-    let s1 = last-digit 0 a (n .0) in
-    let r2 = w .0 ∙ ap (λ x. x / 16) (s8 .0) ∙ s7 .0 in
-    let r3 = w .1 ∙ ap (λ x. x / 16) r2 ∙ s6 .0 in
-    let r4 = w .2 ∙ ap (λ x. x / 16) r3 ∙ s5 .0 in
-    let r5 = w .3 ∙ ap (λ x. x / 16) r4 ∙ s4 .0 in
-    let r6 = w .4 ∙ ap (λ x. x / 16) r5 ∙ s3 .0 in
-    let r7 = w .5 ∙ ap (λ x. x / 16) r6 ∙ s2 .0 in
-    eight (ap (λ x. x % 16) r7 ∙ s1 .1) (ap (λ x. x % 16) r6 ∙ s2 .1) (ap (λ x. x % 16) r5 ∙ s3 .1) (ap (λ x. x % 16) r4 ∙ s4 .1) (ap (λ x. x % 16) r3 ∙ s5 .1) (ap (λ x. x % 16) r2 ∙ s6 .1) (ap (λ x. x % 16) (s8 .0) ∙ s7 .1) (s8 .1)
+unfolding inBase
+digits-key ds l n = nibbles-back ds l n
 
 -- below 2^32
 pub key-small : (ds : List ℕ) → length ds ≡ 8 → Nibbles ds → keyFrom 0 ds < 0x100000000

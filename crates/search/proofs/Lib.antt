@@ -1,9 +1,7 @@
 pub mod Allowed
 pub mod CallLaws
-pub mod CallBounds
 pub mod Answered
 pub mod Demanded
-pub mod Bare
 pub mod BitLaws
 pub mod MarkLaws
 pub mod ReadMarks

@@ -94,14 +94,6 @@ seen-digits bus m s = go (eqb (m .baud) bus)
     go true = refl
     go false = refl
 
-pub seen-baud : (bus : ℕ) (m : PlainMeter) (s : ℕ) → (seenAs bus m s) .baud ≡ m .baud
-unfolding seenAs asMarked
-seen-baud bus m s = go (eqb (m .baud) bus)
-  where
-    go : (b : Bool) → (if b then asMarked m s else m) .baud ≡ m .baud
-    go true = refl
-    go false = refl
-
 -- it hears if it is steady, or if its mark says so
 pub standing-hears : (m : PlainMeter) (s : ℕ) → Bits (m .fault) s → hears (asMarked m s) ≡ (on (s / 16 % 2) || on (s / 4 % 2))
 unfolding hears asMarked

@@ -1,4 +1,4 @@
--- Demand 3 over the plain segment: "one statement about the whole list, not one for each call".
+-- Demand 3 over the plain segment, without a program: what is claimed of the last search of a list. calls/specs/Demand says it of the program's own routines.
 use mathlib.Core.Path.{_≡_}
 use mathlib.Core.Bool.{Bool, true}
 use mathlib.Core.List.{List, _∷_, _++_, map}

@@ -1,4 +1,4 @@
--- How a search packs the meters, and what a meter and an entry are that are packed.
+-- How the program's search packs the meters, and what a meter and an entry are that are packed.
 use mathlib.Core.Bool.{Bool, true, false}
 use mathlib.Core.List.{List, _++_, map}
 use Prim.Native.Nat.{ℕ, zero, suc, _+_, _*_, _/_, _%_, _<_}

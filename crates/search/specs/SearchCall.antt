@@ -1,6 +1,6 @@
 -- 01, "The search (ours)": the search call, over the walk.
-use mathlib.Core.Bool.{Bool, true, false, _&&_, not}
-use mathlib.Core.List.{List, [], _∷_, _++_, map}
+use mathlib.Core.Bool.{Bool, false, _&&_, not}
+use mathlib.Core.List.{List, _++_, map}
 use Prim.Native.Nat.{ℕ}
 use lib.Dec.{eqb, ltb}
 use lib.ListN.{length, drop}
@@ -13,7 +13,7 @@ use Rattle.search.specs.declared.EntryRecord.{EntryRecord}
 use Rattle.search.specs.declared.Kind.the-variants.{One, Mute, Many}
 
 -- An entry in the caller's record: its kind, its eight digits (a mute's mask with F for unknown) and the E5 counted.
--- 01 gives a count for many alone; the 1 of one and mute is ours.
+-- 01 gives a count for many alone; that of one and mute is 1 (docs/DECISIONS.md).
 abbrev pub recordOf : Entry → EntryRecord
 recordOf (one id) = record { kind = One; digits = id; count = 1 }
 recordOf (mute p) = record { kind = Mute; digits = maskDigits p; count = 1 }
@@ -28,7 +28,7 @@ pub record Searched : Type 0 where
   pub lent : List EntryRecord
   pub segment : Plain
 
--- "Each gives its number; segment and lent memory stay." That no entries, no probes and not spent are given is ours.
+-- "Each gives its number; segment and lent memory stay." It gives no entries and no probes, and is not spent (docs/DECISIONS.md).
 abbrev pub searchRefused : ℕ → List EntryRecord → Plain → Searched
 searchRefused n lent s = record { number = n; count = 0; probes = 0; spent = false; lent = lent; segment = s }
 

@@ -59,7 +59,7 @@ searchedOf r lent =
 abbrev pub answerOf : Core → answers.Searched
 answerOf c = record { outcome = c .outcome; count = c .count; probes = c .probes; spent = c .spent; segment = c .segment }
 
--- what stands past the array
+-- a record that no entry was written to, and what is read past the array
 abbrev pub noEntry : EntryRecord
 noEntry = record { kind = One; digits = []; count = 0 }
 

@@ -5,7 +5,7 @@ ghost use lib.ListN.{length};
 ghost use Rattle.scenarios.specs.Opening.{capacity};
 ghost use Rattle.bus.specs.View.{plainOf};
 ghost use Rattle.search.specs.SearchCall.{searchCall};
-ghost use Rattle.search.specs.View.{Empty, metersHeld, Walks, Refuses, CoreFinds, answerOf, recordAt, searchedOf};
+ghost use Rattle.search.specs.View.{outcomeNumber, Empty, metersHeld, Walks, Refuses, CoreFinds, answerOf, recordAt, searchedOf};
 use bus::METERS;
 use bus::Segment;
 use clock::Clock;
@@ -15,13 +15,14 @@ use packed::walk_all;
 
 mod pack;
 
-// An entry as the caller lends it: its kind; the eight digits of its id or mask, most significant first, F for unknown; the E5 counted.
+// The kinds of entries.
 pub enum Kind {
     One,
     Mute,
     Many,
 }
 
+// An entry as the caller lends it: its kind; the eight digits of its id or mask, most significant first, F for unknown; the E5 counted.
 pub struct EntryRecord {
     pub kind: Kind,
     pub digits: [u8; 8],
@@ -34,6 +35,17 @@ pub enum Outcome {
     ClockOutOfRange,
     NotEmpty,
     TooFewLent,
+}
+
+pub fn outcome_number(outcome: Outcome) -> u32
+    ensures { λ r. ⌜ r ≡ outcomeNumber outcome ⌝ }
+{
+    match outcome {
+        Outcome::Made => 0,
+        Outcome::ClockOutOfRange => 14,
+        Outcome::NotEmpty => 16,
+        Outcome::TooFewLent => 17,
+    }
 }
 
 // A search by value: the first `count` entries are those found.

@@ -1,18 +1,15 @@
 -- A search on an image, from what the search by value gives.
 use mathlib.Core.Path.{_≡_, refl, sym, ap, subst, _∙_}
-use mathlib.Core.Bool.{Bool, _&&_, not}
-use mathlib.Core.List.{List, [], _∷_, _++_, append-nil, append-assoc}
-use Prim.Native.Nat.{ℕ, zero, suc, _+_, _*_, _/_, _≤_, _<_}
+use mathlib.Core.Bool.{_&&_, not}
+use mathlib.Core.List.{List, [], _∷_, _++_}
+use Prim.Native.Nat.{ℕ, _+_, _*_, _/_, _<_}
 use native.Mathlib.Omega.{arith}
-use native.Mathlib.Numerals.{add-one}
 use lib.Dec.{eqb, ltb}
-use lib.ListN.{length, take, drop, getD, replicate, length-append, length-replicate}
-use lib.Seq.{paste, take-at, take-suc, drop-drop, drop-append-add, length-take-le}
+use lib.ListN.{length, take, drop, replicate, length-replicate}
+use lib.Seq.{take-at, length-take-le}
 use Rattle.scenarios.specs.Opening.{mostMeters}
-use Rattle.laws.proofs.Lists.{if-all, four-of}
-use Rattle.laws.specs.Words.{at}
-use Rattle.laws.specs.Rows.{rows}
-use Rattle.laws.proofs.Rows.{rows-none}
+use Rattle.laws.proofs.Lists.{if-all, four, four-of}
+use Rattle.laws.specs.Words.{at, each}
 use Rattle.values.specs.Values.{little}
 use Rattle.clock.specs.declared.Clock.{Clock}
 use Rattle.bus.specs.Plain.{Plain}
@@ -25,17 +22,6 @@ use Rattle.search.specs.SearchCall.{Searched, searchCall}
 use Rattle.search.specs.View.{noEntry, outcomeNumber, coreGives, CoreFinds}
 use Rattle.image.specs.Image.{imaged, imageOf, IsImage}
 use Rattle.search_call.specs.Searches.{kindByte, entryBytes, summaryOf, searchBy, Searches}
-
--- ---- the summary
-
--- the four elements of a list
-abbrev four : List ℕ → List ℕ
-four l = getD l 0 0 ∷ getD l 1 0 ∷ getD l 2 0 ∷ getD l 3 0 ∷ []
-
--- three blocks of four bytes
-pub three-blocks : (a b c : List ℕ) → length a ≡ 4 → length b ≡ 4 → length c ≡ 4 → four a ++ four b ++ four c ≡ a ++ b ++ c
-three-blocks a b c h k m =
-    ap (λ (x : List ℕ). x ++ four b ++ four c) (four-of a h) ∙ ap (λ (x : List ℕ). a ++ x ++ four c) (four-of b k) ∙ ap (λ (x : List ℕ). a ++ b ++ x) (four-of c m)
 
 -- ---- entries, one behind the other
 
@@ -108,7 +94,7 @@ module _ (k : Clock) (allowance : ℕ) (entries image : List ℕ) (s : Segment) 
         answer = m;
         segment = sym (z .1);
         bytes = λ q. absurd (omega (arith, q, h));
-        written = ap (λ (x : List ℕ). x ++ entries) (sym (rows-none entryBytes)) ∙ ap (λ (c : ℕ). rows entryBytes (take c (want .lent)) ++ drop (16 * c) entries) (sym (z .0));
+        written = ap (λ (c : ℕ). each (take c (want .lent)) entryBytes ++ drop (16 * c) entries) (sym (z .0));
         told = λ q. absurd (omega (arith, q, h));
         image-kept = λ _. refl;
         entries-kept = λ _. refl;
@@ -116,7 +102,7 @@ module _ (k : Clock) (allowance : ℕ) (entries image : List ℕ) (s : Segment) 
       }
 
   pub search-made : (image₁ entries₁ summary summary₁ : List ℕ) → 0 ≡ outcomeNumber (r .outcome) → IsImage (plainOf (r .segment)) image₁ → length (r .entries) ≡ mostMeters
-      → entries₁ ≡ rows entryBytes (take (r .count) (r .entries)) ++ drop (16 * r .count) entries
+      → entries₁ ≡ each (take (r .count) (r .entries)) entryBytes ++ drop (16 * r .count) entries
       → summary₁ ≡ summaryOf (r .count) (r .probes) (r .spent)
       → Searches want 0 image image₁ entries entries₁ summary summary₁
   search-made image₁ entries₁ summary summary₁ e w l es su =
@@ -127,7 +113,7 @@ module _ (k : Clock) (allowance : ℕ) (entries image : List ℕ) (s : Segment) 
         answer = e ∙ number-gives;
         segment = w .means ∙ segment-gives;
         bytes = λ _. w .bytes ∙ ap imageOf segment-gives;
-        written = es ∙ ap (λ (x : List ℕ). x ++ drop (16 * r .count) entries) (ap (rows entryBytes) (sym t)) ∙ ap (λ (c : ℕ). rows entryBytes (take (want .count) (want .lent)) ++ drop (16 * c) entries) count-gives;
+        written = es ∙ ap (λ (x : List ℕ). x ++ drop (16 * r .count) entries) (ap (λ (xs : List EntryRecord). each xs entryBytes) (sym t)) ∙ ap (λ (c : ℕ). each (take (want .count) (want .lent)) entryBytes ++ drop (16 * c) entries) count-gives;
         told = λ _. su ∙ ap (λ (c : ℕ). summaryOf c (r .probes) (r .spent)) count-gives ∙ ap (λ (c : ℕ). summaryOf (want .count) c (r .spent)) probes-gives ∙ ap (summaryOf (want .count) (want .probes)) spent-gives;
         image-kept = λ h. absurd (omega (arith, h));
         entries-kept = λ h. absurd (omega (arith, h));

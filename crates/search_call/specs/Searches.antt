@@ -1,11 +1,10 @@
 -- A search on an image: what it answers, and what it writes into the lent bytes.
 use mathlib.Core.Path.{_≡_}
-use mathlib.Core.Bool.{Bool, true, false}
+use mathlib.Core.Bool.{Bool}
 use mathlib.Core.List.{List, [], _∷_, _++_}
 use Prim.Native.Nat.{ℕ, _*_, _/_, _<_}
 use lib.ListN.{length, take, drop, replicate}
-use Rattle.laws.specs.Rows.{rows}
-use Rattle.laws.specs.Words.{at, bitIf}
+use Rattle.laws.specs.Words.{at, bitIf, each}
 use Rattle.values.specs.Values.{little}
 use Rattle.clock.specs.declared.Clock.{Clock}
 use Rattle.search.specs.declared.Kind.{Kind}
@@ -42,7 +41,7 @@ pub record Searches (want : Searched) (number : ℕ) (image image₁ entries ent
   pub answer : number ≡ want .number
   pub segment : imaged image₁ ≡ want .segment
   pub bytes : number ≡ 0 → image₁ ≡ imageOf (want .segment)
-  pub written : entries₁ ≡ rows entryBytes (take (want .count) (want .lent)) ++ drop (16 * want .count) entries
+  pub written : entries₁ ≡ each (take (want .count) (want .lent)) entryBytes ++ drop (16 * want .count) entries
   pub told : number ≡ 0 → summary₁ ≡ summaryOf (want .count) (want .probes) (want .spent)
   pub image-kept : 0 < number → image₁ ≡ image
   pub entries-kept : 0 < number → entries₁ ≡ entries

@@ -6,7 +6,7 @@ ghost use lib.ListN.{length, take, drop};
 ghost use lib.Seq.{paste};
 ghost use Rattle.scenarios.specs.Opening.{mostMeters};
 ghost use Rattle.search_call.specs.Searches.{kindByte, entryBytes, summaryOf};
-ghost use Rattle.laws.specs.Rows.{rows};
+ghost use Rattle.laws.specs.Words.{each};
 use bus::METERS;
 use laws::bit;
 use search::EntryRecord;
@@ -64,7 +64,7 @@ fn copy(from: &[u8], n: usize, to: &mut [u8], p: usize)
 // The first count entries, 16 bytes each; the bytes past them stay.
 pub(crate) fn put_entries(found: [EntryRecord; METERS], count: usize, lent: &mut [u8])
     requires { ⌜ (count ≤ mostMeters) × (16 * count ≤ length (now lent)) ⌝ }
-    ensures { λ _. ⌜ now (lent .exit) ≡ rows entryBytes (take count found) ++ drop (16 * count) (now (lent .entry)) ⌝ }
+    ensures { λ _. ⌜ now (lent .exit) ≡ each (take count found) entryBytes ++ drop (16 * count) (now (lent .entry)) ⌝ }
 {
     let mut i: usize = 0;
     while i < count {

@@ -1,23 +1,11 @@
 // A search over an image, as numbers and bytes.
 ghost use mathlib.Core.Path.{_≡_};
-ghost use Rattle.search.specs.View;
 ghost use Rattle.image.specs.Image.{imaged};
 ghost use Rattle.search_call.specs.Searches.{searchBy, Searches};
 use clock::Clock;
 use image::IMAGE;
 
 mod entries; // entries.rt: the entries of a search and its summary, as bytes
-
-fn outcome_number(outcome: search::Outcome) -> u32
-    ensures { λ r. ⌜ r ≡ View.outcomeNumber outcome ⌝ }
-{
-    match outcome {
-        search::Outcome::Made => 0,
-        search::Outcome::ClockOutOfRange => 14,
-        search::Outcome::NotEmpty => 16,
-        search::Outcome::TooFewLent => 17,
-    }
-}
 
 // Searches with an allowance of probes; 16 lent bytes for each entry.
 // 14: a clock field out of range; 16: input or queue not empty; 17: fewer entries lent than meters opened.
@@ -47,7 +35,7 @@ pub fn search_image(
     let room = entries.len() / 16;
     let core = search::search_core(s, clock, allowance, room);
     let outcome = core.outcome;
-    let number = outcome_number(outcome);
+    let number = search::outcome_number(outcome);
     if number != 0 {
         return number;
     }

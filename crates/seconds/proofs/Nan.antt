@@ -1,4 +1,4 @@
--- The code's test for a NaN. Assumes nothing.
+-- The code's test for a NaN.
 use mathlib.Core.Path.{_≡_, subst}
 use mathlib.Core.Bool.{false, not}
 use lib.Dec.{T}

@@ -1,5 +1,5 @@
--- The whole seconds of a time, from the time's value, and the time that has elapsed. Definitions only.
--- A time is a float of `lib.Ieee`: `nan`, an infinity, or `fin s m e`, the number m * 2 ^ e, negative where s is true. Assumes nothing.
+-- The whole seconds of a time, from the time's value, and the time that has elapsed.
+-- A time is a float of `lib.Ieee`: `nan`, an infinity, or `fin s m e`, the number m * 2 ^ e, negative where s is true.
 use Prim.Native.Nat.{ℕ, suc, _*_, _/_, _^_, min}
 use mathlib.Core.Bool.{true, false}
 use lib.IntN.{ℤ, pos, negsuc}

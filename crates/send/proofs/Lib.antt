@@ -1,9 +1,8 @@
-pub mod BoundLaws
 pub mod HandleLaws
 pub mod RepliesLaws
 pub mod SendLaws
 pub mod SentLaws
 pub mod SettleLaws
 pub mod Slips
-pub mod StayLaws
 pub mod SweepLaws
+pub mod UndoLaws

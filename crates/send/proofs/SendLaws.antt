@@ -1,6 +1,6 @@
 -- What one whole telegram, sent to a segment at rest, does; and that no telegram changes an id.
 use mathlib.Core.Path.{_≡_, refl, sym, ap, _∙_, subst}
-use mathlib.Core.Bool.{Bool, true, false, not}
+use mathlib.Core.Bool.{true, false, not}
 use mathlib.Core.List.{List, [], _∷_, _++_, map, append-nil, nil≢cons}
 use Prim.Native.Nat.{ℕ, zero, suc, _≤_, _<_}
 use native.Mathlib.Omega.{arith}
@@ -9,10 +9,9 @@ use lib.Dec.{ltb}
 use borrow.Author.Tests.{le-ltb, ltb-false}
 use lib.ListN.{length, drop, length-drop}
 use lib.Seq.{drop-length}
-use Rattle.laws.specs.Words.{if_then_else_}
+use Rattle.laws.specs.Words.{if_then_else_, Bytes}
 use Rattle.laws.proofs.Lists.{if-all, if-with, map-map, map-same, every-all}
 use Rattle.frame.specs.Frame.{Telegram, ack, short, long, Why, Parsed, complete, incomplete, invalid, parse, encode}
-use Rattle.frame.proofs.Waiting.{Bytes}
 use Rattle.frame.proofs.RoundTrip.{parse-encode, parse-back}
 use Rattle.meter.specs.PlainMeter.{PlainMeter}
 use Rattle.clock.specs.declared.Clock.{Clock}
@@ -174,49 +173,12 @@ unfolding settled
 send-keeps P f g piece k s p =
     send-all P piece k s p (λ h. steps-keeps P f (g []) (length (s .input ++ piece)) k (withInput (s .input ++ piece) s) (g (s .input ++ piece) s p))
 
-pub steps-ids : (n : ℕ) (k : Clock) (s : Plain) → ids (steps n k s) ≡ ids s
-steps-ids n k s = steps-keeps (λ u. ids u ≡ ids s) (λ t k rest u h. handled-ids t k rest u ∙ h) (λ u h. h) n k s refl
-
 pub send-ids : (piece : List ℕ) (k : Clock) (s : Plain) → ids (send piece k s .segment) ≡ ids s
 send-ids piece k s = send-keeps (λ u. ids u ≡ ids s) (λ t k rest u h. handled-ids t k rest u ∙ h) (λ bs u h. h) piece k s refl
 
 -- ---- what waits is incomplete
 
-abbrev pub Waits : List ℕ → Type 0
-Waits bs = Bytes bs × (parse bs ≡ incomplete)
-
 pub bytes-drop : (n : ℕ) (bs : List ℕ) → Bytes bs → Bytes (drop n bs)
 bytes-drop zero bs h = h
 bytes-drop (suc n) [] h = tt
 bytes-drop (suc n) (b ∷ bs) h = bytes-drop n bs (h .1)
-
-steps-waits : (n : ℕ) (k : Clock) (s : Plain) → length (s .input) ≤ n → Bytes (s .input) → Waits ((steps n k s) .input)
-unfolding steps handled parse
-steps-waits zero k s l h = subst Waits (sym (none-left (s .input) l)) (tt, refl)
-steps-waits (suc n) k s l h = go (parse (s .input)) refl (steps-waits n k)
-  where
-    go : (r : Parsed) → parse (s .input) ≡ r → ((u : Plain) → length (u .input) ≤ n → Bytes (u .input) → Waits ((steps n k u) .input)) → Waits ((steps (suc n) k s) .input)
-    go (complete t used) e ih =
-        let u = used-some (s .input) t used e in
-        let d = length-drop used (s .input) in
-        rw (e, steps) (ih (handled t k (drop used (s .input)) s) (omega arith) (bytes-drop used (s .input) h))
-    go incomplete e ih = rw (e, steps) (h, e)
-    go (invalid why) e ih = rw (e, steps) (tt, refl)
-
-pub settled-waits : (k : Clock) (s : Plain) → Bytes (s .input) → Waits ((settled k s) .input)
-unfolding settled
-settled-waits k s h = steps-waits (length (s .input)) k s (omega arith) h
-
--- an accepted send took its steps
-pub send-steps : (piece : List ℕ) (k : Clock) (s : Plain) → (send piece k s) .number ≡ 0 → (send piece k s) .segment ≡ settled k (withInput (s .input ++ piece) s)
-unfolding send
-send-steps piece k s = go (ltb 1024 (length piece)) (goodClock k) (ltb 4096 (length (t .queue)))
-  where
-    t : Plain
-    t = settled k (withInput (s .input ++ piece) s)
-
-    go : (a b c : Bool) → let d : Done = (if a then refused 13 s else (if not b then refused 14 s else (if c then refused 15 s else accepted t))) in d .number ≡ 0 → d .segment ≡ t
-    go true b c e = absurd (omega arith)
-    go false false c e = absurd (omega arith)
-    go false true true e = absurd (omega arith)
-    go false true false e = refl

@@ -1,11 +1,11 @@
 -- The loop over the telegrams: what is left from here is the whole. Its turns, and its ways out.
 use mathlib.Core.Path.{_≡_, refl, sym, ap, _∙_}
-use mathlib.Core.List.{List, [], _++_}
+use mathlib.Core.List.{List, _++_}
 use Prim.Native.Nat.{ℕ, _+_, _-_, _≤_, _<_}
 use native.Mathlib.Omega.{arith}
 use borrow.Author.Tests.{lt-ltb, le-ltb}
-use lib.ListN.{length, take, drop, length-append, length-drop}
-use lib.Seq.{drop-drop, take-all}
+use lib.ListN.{length, take, drop, length-append}
+use lib.Seq.{drop-drop}
 use Rattle.laws.specs.Words.{if_then_else_}
 use Rattle.laws.proofs.Lists.{if-all}
 use Rattle.frame.specs.Frame.{Telegram, Why, complete, incomplete, invalid, parse}

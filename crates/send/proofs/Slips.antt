@@ -17,7 +17,7 @@ use Rattle.bus.specs.Calls.{Done, refused}
 use Rattle.replies.specs.Replies.{joined}
 use Rattle.replies.proofs.JoinLaws.{joined-acks}
 use Rattle.send.specs.Steps.{replies, heardBy, handled, settled}
-use Rattle.send.specs.Send.{fitsQueue, send}
+use Rattle.send.specs.Send.{send}
 use Rattle.send.proofs.SendLaws.{settled-invalid}
 
 -- several E5 come end to end, as many as there are

@@ -1,4 +1,4 @@
--- What one meter's part of handling a telegram comes to.
+-- What the program's step for one meter comes to, where a telegram is handled.
 use mathlib.Core.Path.{_≡_}
 use mathlib.Core.List.{List, [], _∷_, _++_}
 use Prim.Native.Nat.{ℕ}

@@ -2,7 +2,7 @@
 ghost use mathlib.Core.Path.{_≡_};
 ghost use Rattle.bus.specs.View.{plainOf};
 ghost use Rattle.send.specs.Send.{send};
-ghost use Rattle.send.specs.View.{sentOf};
+ghost use Rattle.send.specs.View.{sendingNumber, sentOf};
 use bus::INPUT;
 use bus::Segment;
 use clock::Clock;
@@ -19,6 +19,17 @@ pub enum Sending {
     PieceTooLong,
     ClockOutOfRange,
     QueueFull,
+}
+
+pub fn sending_number(answer: Sending) -> u32
+    ensures { λ r. ⌜ r ≡ sendingNumber answer ⌝ }
+{
+    match answer {
+        Sending::Accepted => 0,
+        Sending::PieceTooLong => 13,
+        Sending::ClockOutOfRange => 14,
+        Sending::QueueFull => 15,
+    }
 }
 
 pub struct Sent {

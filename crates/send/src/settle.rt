@@ -35,7 +35,7 @@ fn is_broadcast(address: u8) -> bool
     address == frame::ADDR_BROADCAST
 }
 
-// A telegram to address FF, which nobody replies to.
+// A telegram to address FF, after which no reply joins the queue.
 fn to_all(frame: Frame) -> bool
     ensures { λ r. ⌜ ((d : List ℕ) → r ≡ toAll (telegramOf frame d)) ⌝ }
 {
@@ -97,6 +97,7 @@ fn step(
 pub(crate) fn settle(segment: Segment, bytes: &[u8], clock: Clock) -> Sent
     ensures { λ r. ⌜ sentOf r ≡ fitsQueue (plainOf segment) (settled clock (withInput (now (bytes .entry)) (plainOf segment))) ⌝ }
 {
+    let meters = segment.meters;
     let mut t = segment;
     let mut pos: usize = 0;
     loop {
@@ -130,9 +131,12 @@ pub(crate) fn settle(segment: Segment, bytes: &[u8], clock: Clock) -> Sent
                     let queued = least(t.queued, QUEUE);
                     let n = replies::length_of(kept);
                     if QUEUE - queued < n {
+                        // Refused: what the telegrams before this one changed is set back.
+                        t.meters = meters;
+                        t.queued = segment.queued;
                         return Sent {
                             answer: Sending::QueueFull,
-                            segment: segment,
+                            segment: t,
                         };
                     }
                     queue::put(&mut t.queue, queued, joined, kept);

@@ -1,14 +1,15 @@
 -- The table, line by line: by computation, but for the general half of (j) and the price of (l).
 use mathlib.Core.Path.{_≡_, refl}
-use mathlib.Core.Bool.{Bool, true, false}
+use mathlib.Core.Bool.{false}
 use mathlib.Core.List.{List, [], _∷_}
-use Prim.Native.Nat.{ℕ, _+_, _*_, _≤_}
+use Prim.Native.Nat.{ℕ, _+_, _*_}
 use native.Mathlib.Omega.{arith}
 use lib.Ieee.{round, sub}
-use lib.ListN.{length, replicate}
+use lib.ListN.{replicate}
+use Rattle.meter_list.specs.Written.{writeTexts, writeRest, writeRecords, writeList}
 use Rattle.frame.specs.Frame.{short, encode, sum, parse, parseShort, parseLong, parseBody}
 use Rattle.values.specs.Values.{bcd, little}
-use Rattle.identity.specs.Identity.{makerCode, idBytes, nibbles, inBase}
+use Rattle.identity.specs.Identity.{manufacturerCode, idBytes, nibbles, inBase}
 use Rattle.dates.specs.Dates.{typeG, typeF}
 use Rattle.seconds.specs.Seconds.{whole, elapsedOf, notBelow0}
 use Rattle.meter.specs.Meter.{hears, put}
@@ -20,11 +21,11 @@ use Rattle.hear.specs.Hear.{target, nke, request, select, commanded, listens, h
 use Rattle.meter.specs.Meter.{rates}
 use Rattle.rules.specs.Tables.{media, faults}
 use Rattle.meter_list.specs.Layout.{readTexts, readRecords}
-use Rattle.rules.specs.Check.{goodId, goodMaker, check}
+use Rattle.rules.specs.Check.{goodId, goodManufacturer, check}
 use Rattle.scenarios.specs.Opening.{capacity, opens, openRecords, openList}
 use Rattle.fresh_meter.specs.Fresh.{otherThanBus, ownBaud, seedOf, fresh}
-use Rattle.builtins.specs.Builtins.{ok10}
-use Rattle.bus.specs.Plain.{Plain, blank}
+use Rattle.builtins.specs.Builtins.{ok10, idText}
+use Rattle.bus.specs.Plain.{blank}
 use Rattle.bus.specs.Calls.{afterOpening}
 use Rattle.replies.specs.Replies.{joined}
 use Rattle.send.specs.Steps.{heardBy, handled, steps, settled}
@@ -35,7 +36,7 @@ use Rattle.search.specs.SearchCall.{searchCall}
 use Rattle.walk.specs.Entries.{atBusBaud, D}
 use Rattle.search.specs.declared.EntryRecord.{EntryRecord}
 use Rattle.search.specs.declared.Kind.the-variants.{One}
-use Rattle.search.specs.Call.{opening, afterCall, afterCalls}
+use Rattle.search.specs.Call.{afterCall, afterCalls}
 use Rattle.search.specs.Demand.{Demanded}
 use Rattle.walk.proofs.Bound.{D-none}
 use Rattle.search.proofs.Demanded.{demanded}
@@ -43,7 +44,7 @@ use Rattle.table.specs.Table.{zeroSeconds, october, opened, walked, outc
 
 -- to unfold this is to unfold every definition that a search computes with
 everything : ℕ
-unfolding encode sum parse parseShort parseLong parseBody makerCode bcd typeG typeF idBytes nibbles inBase little whole elapsedOf sub round notBelow0 hears put alike matches asked fixedData head clockF heatFirst heatSecond electricity water userData response damaged readout rates target nke request select commanded listens hear media faults readTexts readRecords goodId goodMaker check capacity otherThanBus ownBaud seedOf fresh openRecords openList blank joined heardBy handled steps settled afterOpening goodClock send ten walk wholeWalk maskDigits mask reading ask probe good idOf entryOf read
+unfolding encode sum parse parseShort parseLong parseBody manufacturerCode bcd typeG typeF idBytes nibbles inBase little whole elapsedOf sub round notBelow0 hears put alike matches asked fixedData head clockF heatFirst heatSecond electricity water userData response damaged readout rates target nke request select commanded listens hear media faults readTexts readRecords goodId goodManufacturer check capacity otherThanBus ownBaud seedOf fresh openRecords openList blank joined heardBy handled steps settled afterOpening goodClock send ten walk wholeWalk maskDigits mask reading ask probe good idOf entryOf read
 everything = 0
 
 line-a : encode (mask []) ≡ 0x68 ∷ 0x0B ∷ 0x0B ∷ 0x68 ∷ 0x53 ∷ 0xFD ∷ 0x52 ∷ 0xFF ∷ 0xFF ∷ 0xFF ∷ 0xFF ∷ 0xFF ∷ 0xFF ∷ 0xFF ∷ 0xFF ∷ 0x9A ∷ 0x16 ∷ []
@@ -71,11 +72,11 @@ unfolding everything twice
 line-k = refl
 
 line-l : (walked ok10) .probes ≡ 201
-unfolding everything ok10
+unfolding everything ok10 idText writeList writeRecords writeRest writeTexts
 line-l = refl
 
 not-spent : (walked ok10) .spent ≡ false
-unfolding everything ok10
+unfolding everything ok10 idText writeList writeRecords writeRest writeTexts
 not-spent = refl
 
 -- ---- the price of ok10, by demand 3: its first and only search
@@ -84,15 +85,15 @@ lent : List EntryRecord
 lent = replicate 64 (record { kind = One; digits = replicate 8 0; count = 0 })
 
 ok10-demanded : Demanded 10000 lent (opened ok10) (walked ok10) (searchCall october 10000 lent (opened ok10))
-unfolding everything ok10 searchCall afterCall afterCalls lent
+unfolding everything ok10 idText writeList writeRecords writeRest writeTexts searchCall afterCall afterCalls lent
 ok10-demanded = demanded ok10 2400 false zeroSeconds [] october 10000 lent refl
 
 line-l-price : 1 + 10 * D (atBusBaud (opened ok10)) ≡ 201
-unfolding everything ok10
+unfolding everything ok10 idText writeList writeRecords writeRest writeTexts
 line-l-price = omega (arith, line-l, ok10-demanded .steady (refl, (refl, (refl, (refl, (refl, (refl, (refl, (refl, (refl, (refl, tt)))))))))) .complete not-spent .probes)
 
 pub table : Table
-unfolding makerCode bcd idBytes maskDigits typeG joined whole elapsedOf round sub seedOf inBase
+unfolding manufacturerCode bcd idBytes maskDigits typeG joined whole elapsedOf round sub seedOf inBase
 table =
     record {
       a = line-a;

@@ -1,6 +1,6 @@
 -- 01, "Table to be shown true": (a) to (l), and what they speak of.
 use mathlib.Core.Path.{_≡_}
-use mathlib.Core.Bool.{Bool, true, false}
+use mathlib.Core.Bool.{Bool, false}
 use mathlib.Core.List.{List, [], _∷_}
 use Prim.Native.Nat.{ℕ, _+_, _*_, _≤_}
 use lib.IntN.{pos}
@@ -8,7 +8,7 @@ use lib.Ieee.{Float, nan, fin, binary64, round}
 use lib.ListN.{length}
 use Rattle.frame.specs.Frame.{short, encode}
 use Rattle.values.specs.Values.{bcd}
-use Rattle.identity.specs.Identity.{makerCode, idBytes}
+use Rattle.identity.specs.Identity.{manufacturerCode, idBytes}
 use Rattle.dates.specs.Dates.{typeG}
 use Rattle.seconds.specs.Seconds.{whole, last32, elapsedOf}
 use Rattle.clock.specs.declared.Clock.{Clock}
@@ -76,7 +76,7 @@ pub record Table : Type 0 where
   -- (b) mask 1
   pub b : idBytes (maskDigits (1 ∷ [])) ≡ 0xFF ∷ 0xFF ∷ 0xFF ∷ 0x1F ∷ []
   -- (c) KAM, SEN, empty
-  pub c : (makerCode (0x4B ∷ 0x41 ∷ 0x4D ∷ []) ≡ 0x2C2D) × (makerCode (0x53 ∷ 0x45 ∷ 0x4E ∷ []) ≡ 0x4CAE) × (makerCode [] ≡ 0x0000)
+  pub c : (manufacturerCode (0x4B ∷ 0x41 ∷ 0x4D ∷ []) ≡ 0x2C2D) × (manufacturerCode (0x53 ∷ 0x45 ∷ 0x4E ∷ []) ≡ 0x4CAE) × (manufacturerCode [] ≡ 0x0000)
   -- (d) 12345 in four BCD bytes
   pub d : bcd 4 12345 ≡ 0x45 ∷ 0x23 ∷ 0x01 ∷ 0x00 ∷ []
   -- (e) busy at 11, asked by REQ_UD2

@@ -1,23 +1,13 @@
 -- Telegrams and numbers as bytes.
-use mathlib.Core.Path.{_≡_, refl, ap, _∙_}
-use mathlib.Core.List.{List, [], _∷_, _++_}
-use Prim.Native.Nat.{ℕ, _+_, _≤_}
+use mathlib.Core.List.{List, [], _∷_}
+use Prim.Native.Nat.{ℕ, _≤_}
 use native.Mathlib.Omega.{arith}
 use lib.Dec.{ltb}
-use lib.ListN.{length, getD, length-append}
+use lib.ListN.{length, length-append}
 use borrow.Author.Tests.{ltb-false}
-use Rattle.laws.proofs.Lists.{if-all, if-with, four-of}
+use Rattle.laws.proofs.Lists.{if-all, if-with}
 use Rattle.frame.specs.Frame.{Telegram, ack, short, long, encode, dataOf}
 use Rattle.telegram_writer.specs.Writer.{Written, write}
-
--- the four elements of a list
-abbrev four : List ℕ → List ℕ
-four l = getD l 0 0 ∷ getD l 1 0 ∷ getD l 2 0 ∷ getD l 3 0 ∷ []
-
--- three blocks of four bytes, and what lies behind them
-pub blocks-before : (a b c : List ℕ) → length a ≡ 4 → length b ≡ 4 → length c ≡ 4 → (z : List ℕ) → four a ++ four b ++ four c ++ z ≡ a ++ b ++ c ++ z
-blocks-before a b c h k m z =
-    ap (λ (x : List ℕ). x ++ four b ++ four c ++ z) (four-of a h) ∙ ap (λ (x : List ℕ). a ++ x ++ four c ++ z) (four-of b k) ∙ ap (λ (x : List ℕ). a ++ b ++ x ++ z) (four-of c m)
 
 -- a telegram with data of at most 252 bytes has at most 261
 encoded-most : (t : Telegram) → length (dataOf t) ≤ 252 → length (encode t) ≤ 261

@@ -7,10 +7,9 @@ use native.Mathlib.Omega.{arith}
 use lib.Dec.{ltb}
 use lib.ListN.{length, take, drop, take-append-drop}
 use lib.Seq.{length-take-le}
-use Rattle.laws.specs.Words.{if_then_else_}
+use Rattle.laws.specs.Words.{if_then_else_, Bytes}
 use Rattle.frame.specs.Frame.{Telegram, ack, short, long, complete, parse, encode, dataOf}
 use Rattle.frame.proofs.RoundTrip.{parse-encode, parse-back}
-use Rattle.frame.proofs.Waiting.{Bytes}
 use Rattle.telegram_writer.specs.Writer.{Written, write}
 use Rattle.telegram_writer.specs.Theorems.{WrittenBackByWriter, ParsedFromWriter}
 use Rattle.telegram_writer.proofs.WritingLaws.{write-fits}

@@ -10,7 +10,7 @@ use crate::Written;
 use frame::ACK;
 use frame::checksum;
 
-// Each of these writes where there is room.
+// Each `put_` function requires that its bytes fit.
 fn put_ack(lent: &mut [u8])
     requires { ⌜ 1 ≤ length (now lent) ⌝ }
     ensures { λ r. ⌜ now (lent .exit) ≡ Rattle.frame.specs.Frame.encode ack ++ drop 1 (now (lent .entry)) ⌝ }

@@ -1,4 +1,4 @@
--- What the functions say that put a reply's data together.
+-- What the program's functions come to that put a reply's data together.
 use mathlib.Core.Path.{_≡_}
 use mathlib.Core.List.{List, _++_}
 use Prim.Native.Nat.{ℕ}

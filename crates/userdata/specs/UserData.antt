@@ -18,7 +18,7 @@ fixedData elapsed m =
     ++ bcd 4 (12345 + m .seed + whole last64 elapsed / 60)
     ++ bcd 4 678
 
--- the others, CI 72, begin so: id, maker, version, medium, access number, status, signature
+-- the others, CI 72, begin so: id, manufacturer, version, medium, access number, status, signature
 unfoldable pub head : PlainMeter → List ℕ
 head m = idBytes (m .digits) ++ little 2 (m .manufacturer) ++ (m .version ∷ m .medium ∷ m .access ∷ 0x00 ∷ 0x00 ∷ 0x00 ∷ [])
 

@@ -8,10 +8,11 @@ use native.Mathlib.Nat.{pow-succ'}
 use lib.Dec.{leb, eqb}
 use lib.ListN.{length}
 use borrow.Author.Tests.{eqb-true, ne-eqb, leb-true}
+use Rattle.laws.specs.Words.{bitIf}
 use Rattle.meter.specs.PlainMeter.{PlainMeter}
 use Rattle.walk.specs.Walk.{ten}
 use Rattle.walk.specs.Entries.{having, begins, shared, sumTo, prefixes, D}
-use Rattle.walk.proofs.Sums.{total, total-add, total-zero, total-le, count, bit, count-cons, count-le, length-total, total-const, total-prefixes, sumTo-le, sumTo-zero, ten-length}
+use Rattle.walk.proofs.Sums.{total, total-add, total-zero, total-le, count, count-cons, count-le, length-total, total-const, total-prefixes, sumTo-le, sumTo-zero, ten-length}
 
 -- ---- the digits are different from each other
 
@@ -23,42 +24,42 @@ pub ten-range : ten ≡ range 0 10
 unfolding ten
 ten-range = refl
 
-pub miss : (i n x : ℕ) → x < i → total (range i n) (λ d. bit (eqb d x)) ≡ 0
+pub miss : (i n x : ℕ) → x < i → total (range i n) (λ d. bitIf (eqb d x)) ≡ 0
 unfolding total
 miss i zero x h = refl
 miss i (suc n) x h = rw (ne-eqb i x (λ e. omega arith)) (omega (arith, miss (suc i) n x (omega arith)))
 
 -- one of the ten is x, if x is a digit at all
-pub digit-le : (i n x : ℕ) → total (range i n) (λ d. bit (eqb d x)) ≤ 1
+pub digit-le : (i n x : ℕ) → total (range i n) (λ d. bitIf (eqb d x)) ≤ 1
 unfolding total
 digit-le i zero x = zero-le
 digit-le i (suc n) x = go (eqb i x) refl (digit-le (suc i) n x)
   where
-    go : (b : Bool) → eqb i x ≡ b → total (range (suc i) n) (λ d. bit (eqb d x)) ≤ 1 → bit b + total (range (suc i) n) (λ d. bit (eqb d x)) ≤ 1
+    go : (b : Bool) → eqb i x ≡ b → total (range (suc i) n) (λ d. bitIf (eqb d x)) ≤ 1 → bitIf b + total (range (suc i) n) (λ d. bitIf (eqb d x)) ≤ 1
     go true e h = omega (arith, miss (suc i) n x (omega (arith, eqb-true i x e)))
     go false e h = omega arith
 
 -- ---- the ten prefixes with one digit more have no more meters than the prefix itself
 
-split-one : (p id : List ℕ) → total ten (λ d. bit (begins (p ++ d ∷ []) id)) ≤ bit (begins p id)
+split-one : (p id : List ℕ) → total ten (λ d. bitIf (begins (p ++ d ∷ []) id)) ≤ bitIf (begins p id)
 split-one [] [] = omega (arith, total-zero ten)
 split-one [] (x ∷ id) = simp (and-true, ten-range) (digit-le 0 10 x)
 split-one (e ∷ p) [] = omega (arith, total-zero ten)
 split-one (e ∷ p) (x ∷ id) = go (eqb e x) (split-one p id)
   where
-    go : (b : Bool) → total ten (λ d. bit (begins (p ++ d ∷ []) id)) ≤ bit (begins p id)
-        → total ten (λ d. bit (b && begins (p ++ d ∷ []) id)) ≤ bit (b && begins p id)
+    go : (b : Bool) → total ten (λ d. bitIf (begins (p ++ d ∷ []) id)) ≤ bitIf (begins p id)
+        → total ten (λ d. bitIf (b && begins (p ++ d ∷ []) id)) ≤ bitIf (b && begins p id)
     go true h = h
     go false h = omega (arith, total-zero ten)
 
-count-split {ℓ} : {A : Type ℓ} (ds : List ℕ) (t : ℕ → A → Bool) (s : A → Bool) → ((x : A) → total ds (λ d. bit (t d x)) ≤ bit (s x))
+count-split {ℓ} : {A : Type ℓ} (ds : List ℕ) (t : ℕ → A → Bool) (s : A → Bool) → ((x : A) → total ds (λ d. bitIf (t d x)) ≤ bitIf (s x))
     → (xs : List A) → total ds (λ d. count (t d) xs) ≤ count s xs
 count-split ds t s h [] = omega (arith, total-zero ds)
 count-split ds t s h (x ∷ xs) =
     omega (
       arith,
       ap (total ds) (fun-ext λ d. count-cons (t d) x xs),
-      total-add ds (λ d. bit (t d x)) (λ d. count (t d) xs),
+      total-add ds (λ d. bitIf (t d x)) (λ d. count (t d) xs),
       h x,
       count-cons s x xs,
       count-split ds t s h xs,
@@ -91,7 +92,7 @@ unfolding total
 twice f [] = zero-le
 twice f (p ∷ ps) = omega (arith, count-cons (λ q. leb 2 (f q)) p ps, twice f ps, go (leb 2 (f p)) refl)
   where
-    go : (b : Bool) → leb 2 (f p) ≡ b → 2 * bit b ≤ f p
+    go : (b : Bool) → leb 2 (f p) ≡ b → 2 * bitIf b ≤ f p
     go true e = omega (arith, leb-true 2 (f p) e)
     go false e = zero-le
 

@@ -8,28 +8,29 @@ use lib.Dec.{leb, eqb}
 use lib.Seq.{append-snoc}
 use lib.ListN.{length}
 use borrow.Author.Tests.{lt-leb, le-leb}
+use Rattle.laws.specs.Words.{each, bitIf}
 use Rattle.meter.specs.PlainMeter.{PlainMeter}
 use Rattle.walk.specs.Walk.{Entry, ten}
-use Rattle.walk.specs.Entries.{having, begins, each, shared, D}
-use Rattle.walk.proofs.Sums.{total, total-rows, count, bit, count-cons, counts, counts-suc, counts-none, length-each, counts-zero, ten-length}
+use Rattle.walk.specs.Entries.{having, begins, shared, D}
+use Rattle.walk.proofs.Sums.{total, total-rows, count, count-cons, counts, counts-suc, counts-none, length-each, counts-zero, ten-length}
 use Rattle.walk.proofs.Cut.{traced, trace}
 
 -- ---- fewer meters have a longer prefix
 
-bit-le-one : (b : Bool) → bit b ≤ 1
-bit-le-one true = omega arith
-bit-le-one false = omega arith
+bitIf-le-one : (b : Bool) → bitIf b ≤ 1
+bitIf-le-one true = omega arith
+bitIf-le-one false = omega arith
 
-begins-append : (p q id : List ℕ) → bit (begins (p ++ q) id) ≤ bit (begins p id)
-begins-append [] q id = bit-le-one (begins q id)
+begins-append : (p q id : List ℕ) → bitIf (begins (p ++ q) id) ≤ bitIf (begins p id)
+begins-append [] q id = bitIf-le-one (begins q id)
 begins-append (d ∷ p) q [] = omega arith
 begins-append (d ∷ p) q (x ∷ id) = go (eqb d x) (begins-append p q id)
   where
-    go : (b : Bool) → bit (begins (p ++ q) id) ≤ bit (begins p id) → bit (b && begins (p ++ q) id) ≤ bit (b && begins p id)
+    go : (b : Bool) → bitIf (begins (p ++ q) id) ≤ bitIf (begins p id) → bitIf (b && begins (p ++ q) id) ≤ bitIf (b && begins p id)
     go true h = h
     go false h = zero-le
 
-count-weaker {ℓ} : {A : Type ℓ} (s t : A → Bool) → ((x : A) → bit (s x) ≤ bit (t x)) → (xs : List A) → count s xs ≤ count t xs
+count-weaker {ℓ} : {A : Type ℓ} (s t : A → Bool) → ((x : A) → bitIf (s x) ≤ bitIf (t x)) → (xs : List A) → count s xs ≤ count t xs
 count-weaker s t h [] = zero-le
 count-weaker s t h (x ∷ xs) = omega (arith, count-cons s x xs, count-cons t x xs, h x, count-weaker s t h xs)
 

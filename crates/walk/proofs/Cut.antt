@@ -7,9 +7,10 @@ use native.Mathlib.Omega.{arith}
 use native.Mathlib.Nat.{suc-sub-suc}
 use lib.Dec.{ltb, leb·zero, leb·suc-zero, leb·suc-suc}
 use lib.ListN.{length, take}
+use Rattle.laws.specs.Words.{each}
 use Rattle.meter.specs.PlainMeter.{PlainMeter}
 use Rattle.walk.specs.Walk.{Entry, many, ten}
-use Rattle.walk.specs.Entries.{loneEntry, having, each}
+use Rattle.walk.specs.Entries.{loneEntry, having}
 use Rattle.walk.proofs.Model.{Run, on, modelStopped, join, andThen, modelRow, heard, paid, modelWalk}
 
 -- what each probe of the walk without an allowance adds to the entries, probe after probe

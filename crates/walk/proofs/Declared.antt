@@ -7,21 +7,22 @@ use native.Mathlib.Omega.{arith}
 use lib.Seq.{append-snoc}
 use lib.ListN.{length, length-append}
 use borrow.Author.Tests.{le-leb, eq-eqb, ne-eqb}
+use Rattle.laws.specs.Words.{each}
 use Rattle.meter.specs.PlainMeter.{PlainMeter}
 use Rattle.walk.specs.Walk.{Entry, many, ten}
-use Rattle.walk.specs.Entries.{loneEntry, having, each, shared, dictionary, parentShared, entryBy, entryAt, entriesOf}
+use Rattle.walk.specs.Entries.{loneEntry, having, shared, prefixesUpTo, parentShared, entryBy, entryAt, entriesOf}
 use Rattle.walk.proofs.Sums.{each-none, each-map, each-each}
 use Rattle.walk.proofs.Cut.{traced, trace, all}
 use Rattle.walk.proofs.Count.{having-append, unshared}
 use Rattle.walk.proofs.Limit.{full}
 
-each-dictionary : {A : Type 0} (n : ℕ) (f : List ℕ → List A) → each (dictionary (suc n)) f ≡ f [] ++ each ten (λ d. each (dictionary n) (λ q. f (d ∷ q)))
-unfolding dictionary
-each-dictionary n f = simp (each-each, each-map)
+each-prefixesUpTo : {A : Type 0} (n : ℕ) (f : List ℕ → List A) → each (prefixesUpTo (suc n)) f ≡ f [] ++ each ten (λ d. each (prefixesUpTo n) (λ q. f (d ∷ q)))
+unfolding prefixesUpTo
+each-prefixesUpTo n f = simp (each-each, each-map)
 
-each-dictionary-zero : {A : Type 0} (f : List ℕ → List A) → each (dictionary 0) f ≡ f [] ++ []
-unfolding dictionary
-each-dictionary-zero f = refl
+each-prefixesUpTo-zero : {A : Type 0} (f : List ℕ → List A) → each (prefixesUpTo 0) f ≡ f [] ++ []
+unfolding prefixesUpTo
+each-prefixesUpTo-zero f = refl
 
 -- ---- parents
 
@@ -54,18 +55,18 @@ node p (m ∷ []) w e t rest f g = ap (λ r. loneEntry p m ∷ r) (sym (f (omega
 node p (m ∷ n ∷ hs) w e t rest f g = g (omega arith)
 
 pub entries : (u : ℕ) (ms : List PlainMeter) (p : List ℕ) → length p + u ≡ 8 → parentShared ms p ≡ true
-    → all (trace u ms p) ≡ each (dictionary u) (λ q. entryAt ms (p ++ q))
+    → all (trace u ms p) ≡ each (prefixesUpTo u) (λ q. entryAt ms (p ++ q))
 unfolding trace all
 entries zero ms p h up =
     node p (having ms p) true (many p (length (having ms p)) ∷ []) [] [] (λ few. refl) (λ several. refl)
-    ∙ sym (each-dictionary-zero (λ q. entryAt ms (p ++ q)) ∙ simp (append-nil, up, eq-eqb (length p) 8 (omega arith)))
+    ∙ sym (each-prefixesUpTo-zero (λ q. entryAt ms (p ++ q)) ∙ simp (append-nil, up, eq-eqb (length p) 8 (omega arith)))
 entries (suc u) ms p h up =
-    node p (having ms p) false [] (each ten (λ d. trace u ms (p ++ d ∷ []))) (each ten (λ d. each (dictionary u) (λ q. entryAt ms (p ++ d ∷ q))))
-    (λ few. each-none ten _ (λ d. each-none (dictionary u) _ (λ q. quiet ms p d q few)))
+    node p (having ms p) false [] (each ten (λ d. trace u ms (p ++ d ∷ []))) (each ten (λ d. each (prefixesUpTo u) (λ q. entryAt ms (p ++ d ∷ q))))
+    (λ few. each-none ten _ (λ d. each-none (prefixesUpTo u) _ (λ q. quiet ms p d q few)))
     (λ several. each-each ten (λ d. trace u ms (p ++ d ∷ [])) (λ e. e)
     ∙ ap (each ten) (fun-ext λ d. simp append-snoc at (entries u ms (p ++ d ∷ []) (omega (arith, length-append p (d ∷ [])))
     (parent-append ms p d [] ∙ rw append-nil (le-leb 2 (length (having ms p)) several)))))
-    ∙ sym (each-dictionary u (λ q. entryAt ms (p ++ q)) ∙ simp (append-nil, up, ne-eqb (length p) 8 (λ e. omega arith)))
+    ∙ sym (each-prefixesUpTo u (λ q. entryAt ms (p ++ q)) ∙ simp (append-nil, up, ne-eqb (length p) 8 (λ e. omega arith)))
 
 pub full-declared : (ms : List PlainMeter) → full ms ≡ entriesOf ms
 unfolding full entriesOf

@@ -7,21 +7,17 @@ use Prim.Native.Nat.{ℕ, _≤_}
 use native.Mathlib.Omega.{arith}
 use lib.Dec.{eqb}
 use lib.Ieee.{Float}
-use lib.ListN.{length, take, length-map, length-take}
+use lib.ListN.{length, length-map}
 use Rattle.laws.specs.Words.{keep, Every}
 use Rattle.laws.proofs.Lists.{every-map, every-all, every-image, keep-same, keep-map, keep-keep, keep-fewer, length-keep, map-map, map-same, and-l, and-r, and-both}
 use Rattle.frame.specs.Frame.{encode}
-use Rattle.identity.specs.Identity.{digitsOf}
 use Rattle.meter.specs.PlainMeter.{PlainMeter}
 use Rattle.clock.specs.declared.Clock.{Clock}
 use Rattle.meter.specs.declared.Fault.the-variants.{None}
 use Rattle.meter.specs.Meter.{hears}
-use Rattle.meter.specs.View.{plainMeter}
 use Rattle.hear.proofs.HearLaws.{Alike, probed-alike, read-alike}
-use Rattle.scenarios.specs.Opening.{mostMeters, capacity}
+use Rattle.scenarios.specs.Opening.{capacity}
 use Rattle.bus.specs.Plain.{Plain}
-use Rattle.bus.specs.declared.Segment.{Segment}
-use Rattle.bus.specs.View.{plainOf}
 use Rattle.send.specs.Send.{send}
 use Rattle.clock.specs.Fields.{goodClock}
 use Rattle.send.proofs.SendLaws.{atRest}
@@ -43,11 +39,6 @@ pub record Sized (s : Plain) : Type 0 where
 
 pub well-sized : (s : Plain) → WellFormed s → Sized s
 well-sized s w = record { few = w .few; eight = every-map (λ m i. i .0) (s .meters) (w .ids) }
-
--- the program's segment, whatever it holds
-pub plain-sized : (s : Segment) → length (s .meters) ≡ mostMeters → Sized (plainOf s)
-unfolding plainOf capacity digitsOf
-plain-sized s h = record { few = omega (arith, length-map (take (s .count) (s .meters)) plainMeter, length-take (s .count) (s .meters)); eight = every-image (λ m. length (m .digits) ≡ 8) plainMeter (take (s .count) (s .meters)) (every-all (λ m. refl) (take (s .count) (s .meters))) }
 
 -- a segment at rest, as every search begins, goes on and ends
 pub record Idle (s : Plain) : Type 0 where

@@ -4,6 +4,7 @@ use mathlib.Core.List.{List, [], _∷_, _++_}
 use Prim.Native.Nat.{ℕ, zero, suc, _+_, _-_, _≤_, _<_}
 use native.Mathlib.Omega.{arith}
 use lib.ListN.{length, length-append}
+use Rattle.laws.specs.Words.{Every}
 use Rattle.meter.specs.PlainMeter.{PlainMeter}
 use Rattle.walk.specs.Walk.{Entry, many, ten}
 use Rattle.walk.specs.Entries.{having, loneEntry}
@@ -12,8 +13,7 @@ use Rattle.walk.specs.Entries.{having, loneEntry}
 
 -- digits, each below ten
 abbrev pub Digits : List ℕ → Type 0
-Digits [] = Unit {0}
-Digits (x ∷ xs) = (x < 10) × Digits xs
+Digits ds = Every (λ d. d < 10) ds
 
 -- a prefix: at most eight digits
 pub record Prefix (p : List ℕ) : Type 0 where

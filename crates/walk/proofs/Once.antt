@@ -8,13 +8,13 @@ use native.Mathlib.Omega.{arith}
 use lib.Dec.{eqb}
 use lib.ListN.{length, length-append}
 use borrow.Author.Tests.{eq-eqb, eqb-true, eqb-false}
-use Rattle.laws.specs.Words.{keep, sameList}
+use Rattle.laws.specs.Words.{keep, sameList, each, bitIf}
 use Rattle.laws.proofs.Lists.{and-l, and-r}
 use Rattle.meter.specs.PlainMeter.{PlainMeter}
 use Rattle.walk.specs.Walk.{Entry, one, mute, many, ten}
-use Rattle.walk.specs.Entries.{readingFails, loneEntry, having, begins, each, inEntry}
+use Rattle.walk.specs.Entries.{readingFails, loneEntry, having, begins, inEntry}
 use Rattle.walk.proofs.Model.{Digits, Prefix, no-digit, ten-digits, prefix-longer}
-use Rattle.walk.proofs.Sums.{total, total-zero, total-each, count, count-total, count-cons, bit}
+use Rattle.walk.proofs.Sums.{total, total-zero, total-each, count, count-total, count-cons}
 use Rattle.walk.proofs.Cut.{traced, trace, all}
 use Rattle.walk.proofs.Bound.{range, ten-range, miss}
 use Rattle.walk.proofs.Limit.{full}
@@ -22,23 +22,23 @@ use Rattle.walk.proofs.MaskLaws.{alike-mask}
 
 -- ---- a digit is one of the ten
 
-hit : (i n x : ℕ) → i ≤ x → x < i + n → total (range i n) (λ d. bit (eqb d x)) ≡ 1
+hit : (i n x : ℕ) → i ≤ x → x < i + n → total (range i n) (λ d. bitIf (eqb d x)) ≡ 1
 unfolding total
 hit i zero x h k = absurd (omega arith)
 hit i (suc n) x h k = go (eqb i x) refl (λ l. hit (suc i) n x l (omega arith))
   where
-    go : (b : Bool) → eqb i x ≡ b → (suc i ≤ x → total (range (suc i) n) (λ d. bit (eqb d x)) ≡ 1) → bit b + total (range (suc i) n) (λ d. bit (eqb d x)) ≡ 1
+    go : (b : Bool) → eqb i x ≡ b → (suc i ≤ x → total (range (suc i) n) (λ d. bitIf (eqb d x)) ≡ 1) → bitIf b + total (range (suc i) n) (λ d. bitIf (eqb d x)) ≡ 1
     go true e r = omega (arith, miss (suc i) n x (omega (arith, eqb-true i x e)))
     go false e r = omega (arith, r (omega (arith, eqb-false i x e)))
 
 -- an id goes on with just one of the ten digits
-next : (p id : List ℕ) → Digits id → length p < length id → total ten (λ d. bit (begins (p ++ d ∷ []) id)) ≡ bit (begins p id)
+next : (p id : List ℕ) → Digits id → length p < length id → total ten (λ d. bitIf (begins (p ++ d ∷ []) id)) ≡ bitIf (begins p id)
 next p [] g h = absurd (omega arith)
 next [] (x ∷ id) g h = simp (and-true, ten-range) (hit 0 10 x zero-le (g .0))
 next (e ∷ p) (x ∷ id) g h = go (eqb e x) (next p id (g .1) (omega arith))
   where
-    go : (b : Bool) → total ten (λ d. bit (begins (p ++ d ∷ []) id)) ≡ bit (begins p id)
-        → total ten (λ d. bit (b && begins (p ++ d ∷ []) id)) ≡ bit (b && begins p id)
+    go : (b : Bool) → total ten (λ d. bitIf (begins (p ++ d ∷ []) id)) ≡ bitIf (begins p id)
+        → total ten (λ d. bitIf (b && begins (p ++ d ∷ []) id)) ≡ bitIf (b && begins p id)
     go true k = k
     go false k = total-zero ten
 
@@ -117,12 +117,12 @@ module _ (m : PlainMeter) where
 
   node : (p : List ℕ) → Prefix p → length (m .digits) ≡ 8 → (hs : List PlainMeter) (e : List Entry) (t : List (List Entry))
       → (begins p (m .digits) ≡ true → List·Memᴰ m hs) → ((k : PlainMeter) → List·Memᴰ k hs → begins p (k .digits) ≡ true)
-      → (2 ≤ length hs → count (inEntry m) (e ++ all t) ≡ bit (begins p (m .digits)))
-      → count (inEntry m) (all (traced p hs e t)) ≡ bit (begins p (m .digits))
+      → (2 ≤ length hs → count (inEntry m) (e ++ all t) ≡ bitIf (begins p (m .digits)))
+      → count (inEntry m) (all (traced p hs e t)) ≡ bitIf (begins p (m .digits))
   unfolding all
   node p w eight [] e t mem is several = go (begins p (m .digits)) refl
     where
-      go : (b : Bool) → begins p (m .digits) ≡ b → 0 ≡ bit b
+      go : (b : Bool) → begins p (m .digits) ≡ b → 0 ≡ bitIf b
       go true q = absurd (List·Memᴰ·not-nil (mem q))
       go false q = refl
   node p w eight (k ∷ []) e t mem is several =
@@ -130,7 +130,7 @@ module _ (m : PlainMeter) where
   node p w eight (k ∷ n ∷ hs) e t mem is several = several (omega arith)
 
   module _ (ms : List PlainMeter) (here : List·Memᴰ m ms) (good : Digits (m .digits)) (eight : length (m .digits) ≡ 8) where
-    once : (u : ℕ) (p : List ℕ) → Prefix p → length p + u ≡ 8 → count (inEntry m) (all (trace u ms p)) ≡ bit (begins p (m .digits))
+    once : (u : ℕ) (p : List ℕ) → Prefix p → length p + u ≡ 8 → count (inEntry m) (all (trace u ms p)) ≡ bitIf (begins p (m .digits))
     unfolding trace all
     once zero p w h =
         node p w eight (having ms p) _ _ (keep-mem (λ k. begins p (k .digits)) here) (λ k. keep-true (λ k. begins p (k .digits)) k ms)

@@ -55,7 +55,7 @@ pub steady-by : (a : ℕ) (ms : List PlainMeter) (w : Walked) → foundBy w ≡ 
 steady-by a ms w e ids =
     record {
       spent = (short, λ h. spent-is ∙ lt-ltb a (1 + 10 * D ms) h);
-      sofar = λ s. (all (drop a (trace 8 ms [])), sym (full-declared ms) ∙ search-first ms a ∙ ap (λ (r : Found). r .entries ++ all (drop a (trace 8 ms []))) (sym e));
+      soFar = λ s. (all (drop a (trace 8 ms [])), sym (full-declared ms) ∙ search-first ms a ∙ ap (λ (r : Found). r .entries ++ all (drop a (trace 8 ms []))) (sym e));
       complete = λ s.
           let same : w .entries ≡ full ms = ap (λ (r : Found). r .entries) e ∙ search-full ms a (enough s) in
           record {

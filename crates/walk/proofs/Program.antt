@@ -1,19 +1,18 @@
 -- The walk in the shape of a program: the entries so far are in whatever holds them.
--- Where what holds them has no room any more, it keeps what it has: entries are never more than meters, so this never shows (search, proofs/Bare.antt, `walk-bare`).
+-- Where what holds them has no room any more, it keeps what it has: entries are never more than meters, so this never shows.
 use mathlib.Core.Path.{_≡_, refl, sym, ap, _∙_}
 use mathlib.Core.Bool.{Bool, true, false}
 use mathlib.Core.List.{List, [], _∷_, _++_, map}
-use Prim.Native.Nat.{ℕ, zero, suc, _+_, _≤_, _<_}
+use Prim.Native.Nat.{ℕ, zero, suc, _+_, _≤_}
 use native.Mathlib.Omega.{arith}
 use lib.Dec.{leb, ltb, leb·suc-suc}
-use lib.ListN.{length, take, length-append, length-map}
+use lib.ListN.{length, take, length-map}
 use lib.Seq.{take-all, take-nil}
 use borrow.Author.Tests.{lt-ltb}
 use Rattle.laws.specs.Words.{if_then_else_}
 use Rattle.clock.specs.declared.Clock.{Clock}
 use Rattle.bus.specs.Plain.{Plain}
 use Rattle.walk.specs.Walk.{Entry, many, ten, probe, read, Walked, noted, row, answered, probed, walk, wholeWalk}
-use Rattle.walk.proofs.Model.{Digits, Prefix, ten-digits, prefix-longer}
 
 -- the entries held, the probes made, spent or not, the segment
 pub record RunP (E S : Type 0) : Type 0 where
@@ -106,48 +105,6 @@ module _ (E : Type 0) (push : Entry → E → E) (hold : List Entry → E) (push
   pub whole-held : (s : Plain) → heldRun hold (wholeWalk k allowance s) ≡ walkP E Plain push (probe k) (read k) allowance 8 [] (begun (hold []) s)
   unfolding wholeWalk
   whole-held s = walk-held 8 [] (record { entries = []; probes = 0; spent = false; segment = s })
-
--- ---- two probes and two readings that agree wherever the walk comes give the same walk
-
-module _ (E S : Type 0) (push : Entry → E → E) (probe probe′ : List ℕ → S → ℕ × S) (read read′ : List ℕ → S → Entry × S) (a : ℕ) (Inv : S → Type 0)
-    (probe-inv : (p : List ℕ) → Prefix p → (s : S) → Inv s → Inv ((probe p s) .1)) (read-inv : (p : List ℕ) → Prefix p → (s : S) → Inv s → Inv ((read p s) .1))
-    (probe-same : (p : List ℕ) → Prefix p → (s : S) → Inv s → probe p s ≡ probe′ p s) (read-same : (p : List ℕ) → Prefix p → (s : S) → Inv s → read p s ≡ read′ p s) where
-  abbrev Same : RunP E S → RunP E S → Type 0
-  Same t v = (t ≡ v) × Inv (t .state)
-
-  row-agree : (ds : List ℕ) → Digits ds → (f g : ℕ → RunP E S → RunP E S) → ((d : ℕ) (t : RunP E S) → d < 10 → Inv (t .state) → Same (f d t) (g d t))
-      → (t : RunP E S) → Inv (t .state) → Same (rowP ds f t) (rowP ds g t)
-  row-agree [] e f g h t i = (refl, i)
-  row-agree (d ∷ ds) e f g h t i =
-      let r = h d t (e .0) i in let n = row-agree ds (e .1) f g h (f d t) (r .1) in (n .0 ∙ ap (rowP ds g) (r .0), n .1)
-
-  answered-agree : (p : List ℕ) → Prefix p → (n : ℕ) (f g : RunP E S → RunP E S) → ((t : RunP E S) → Inv (t .state) → Same (f t) (g t))
-      → (t : RunP E S) → Inv (t .state) → Same (answeredP E S push probe read a p n f t) (answeredP E S push probe′ read′ a p n g t)
-  answered-agree p w zero f g h t i = (refl, i)
-  answered-agree p w (suc zero) f g h t i = (ap (λ (r : Entry × S). notedP E S push probe read a (r .0) (r .1) t) (read-same p w (t .state) i), read-inv p w (t .state) i)
-  answered-agree p w (suc (suc n)) f g h t i = h t i
-
-  probed-agree : (p : List ℕ) → Prefix p → (f g : ℕ → RunP E S → RunP E S) → ((n : ℕ) (t : RunP E S) → Inv (t .state) → Same (f n t) (g n t))
-      → (t : RunP E S) → Inv (t .state) → Same (probedP E S push probe read a p f t) (probedP E S push probe′ read′ a p g t)
-  probed-agree p w f g h t i = go (leb a (t .probes))
-    where
-      run : (ℕ → RunP E S → RunP E S) → ℕ × S → RunP E S
-      run f r = answeredP E S push probe′ read′ a p (r .0) (f (r .0)) (countedP (r .1) t)
-
-      go : (b : Bool) → Same (if b then stoppedP t else (let r = probe p (t .state) in answeredP E S push probe read a p (r .0) (f (r .0)) (countedP (r .1) t)))
-          (if b then stoppedP t else run g (probe′ p (t .state)))
-      go true = (refl, i)
-      go false =
-          let r = probe p (t .state) in
-          let n = answered-agree p w (r .0) (f (r .0)) (g (r .0)) (h (r .0)) (countedP (r .1) t) (probe-inv p w (t .state) i) in
-          (n .0 ∙ ap (run g) (probe-same p w (t .state) i), n .1)
-
-  pub walk-agree : (u : ℕ) (p : List ℕ) → Prefix p → length p + u ≡ 8 → (t : RunP E S) → Inv (t .state) → Same (walkP E S push probe read a u p t) (walkP E S push probe′ read′ a u p t)
-  unfolding walkP
-  walk-agree zero p w e = probed-agree p w (λ n t. notedP E S push probe read a (many p n) (t .state) t) (λ n t. notedP E S push probe′ read′ a (many p n) (t .state) t) (λ n t i. (refl, i))
-  walk-agree (suc u) p w e = probed-agree p w (λ n. rowP ten (λ d. walkP E S push probe read a u (p ++ d ∷ []))) (λ n. rowP ten (λ d. walkP E S push probe′ read′ a u (p ++ d ∷ [])))
-      (λ n. row-agree ten ten-digits (λ d. walkP E S push probe read a u (p ++ d ∷ [])) (λ d. walkP E S push probe′ read′ a u (p ++ d ∷ []))
-      (λ d t l. walk-agree u (p ++ d ∷ []) (prefix-longer p d w (omega arith) l) (omega (arith, length-append p (d ∷ []))) t))
 
 -- ---- a list that takes no more than n
 

@@ -6,11 +6,11 @@ use Prim.Native.Nat.{ℕ, zero, suc, _+_, _≤_, _<_}
 use native.Mathlib.Omega.{arith}
 use lib.Dec.{eqb, ltb}
 use borrow.Author.Tests.{eq-eqb, lt-ltb, eqb-true}
-use Rattle.laws.specs.Words.{Every}
+use Rattle.laws.specs.Words.{Every, each}
 use Rattle.laws.proofs.Lists.{every-map, every-append, and-l, and-r}
 use Rattle.meter.specs.PlainMeter.{PlainMeter}
 use Rattle.walk.specs.Walk.{Entry, one, mute, ten}
-use Rattle.walk.specs.Entries.{readingFails, loneEntry, having, begins, each, key, comesBefore, Rising}
+use Rattle.walk.specs.Entries.{readingFails, loneEntry, having, begins, key, comesBefore, Rising}
 use Rattle.walk.proofs.Sums.{each-each}
 use Rattle.walk.proofs.Cut.{traced, trace, all}
 use Rattle.walk.proofs.Bound.{range, ten-range}

@@ -136,9 +136,6 @@ module _ (k : Clock) (gc : goodClock k ≡ true) (b : ℕ) (o : Float) (p : List
     ids : Every (λ m. length (m .digits) ≡ 8) ms
     ids = every-map (λ m f. f .0 .0) ms fine
 
-    after-probe : List PlainMeter
-    after-probe = map (probedM k b o p) ms
-
     pub probe-count′ : (probe k p (atRest b o ms)) .0 ≡ length (having (seenIn (atRest b o ms)) p)
     probe-count′ =
         ap (λ (r : ℕ × Plain). r .0) (probe-rest k b o gc p w ms ids few)

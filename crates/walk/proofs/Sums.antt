@@ -5,9 +5,9 @@ use mathlib.Core.List.{List, [], _∷_, _++_, map, append-assoc}
 use Prim.Native.Nat.{ℕ, zero, suc, _+_, _*_, _≤_}
 use native.Mathlib.Omega.{arith}
 use lib.ListN.{length}
-use Rattle.laws.specs.Words.{keep}
+use Rattle.laws.specs.Words.{keep, each, bitIf}
 use Rattle.walk.specs.Walk.{ten}
-use Rattle.walk.specs.Entries.{sumTo, each, prefixes}
+use Rattle.walk.specs.Entries.{sumTo, prefixes}
 
 module _ {ℓ} {A : Type ℓ} where
   -- the sum of f over a list
@@ -61,15 +61,11 @@ sumTo-total n (x ∷ xs) f = omega (arith, sumTo-add n (f x) (λ k. total xs (λ
 abbrev pub count {ℓ} : {A : Type ℓ} → (A → Bool) → List A → ℕ
 count t xs = length (keep t xs)
 
-abbrev pub bit : Bool → ℕ
-bit true = 1
-bit false = 0
-
 module _ {ℓ} {A : Type ℓ} where
-  pub count-cons : (t : A → Bool) (x : A) (xs : List A) → count t (x ∷ xs) ≡ bit (t x) + count t xs
+  pub count-cons : (t : A → Bool) (x : A) (xs : List A) → count t (x ∷ xs) ≡ bitIf (t x) + count t xs
   count-cons t x xs = go (t x)
     where
-      go : (b : Bool) → length (cond b (x ∷ keep t xs) (keep t xs)) ≡ bit b + length (keep t xs)
+      go : (b : Bool) → length (cond b (x ∷ keep t xs) (keep t xs)) ≡ bitIf b + length (keep t xs)
       go true = omega arith
       go false = omega arith
 
@@ -81,7 +77,7 @@ module _ {ℓ} {A : Type ℓ} where
   count-le t [] = omega arith
   count-le t (x ∷ xs) = omega (arith, count-cons t x xs, count-le t xs, go (t x))
     where
-      go : (b : Bool) → bit b ≤ 1
+      go : (b : Bool) → bitIf b ≤ 1
       go true = omega arith
       go false = omega arith
 
@@ -98,7 +94,7 @@ module _ {ℓ} {A : Type ℓ} where
   total-const [] c = omega arith
   total-const (x ∷ xs) c = omega (arith, total-const xs c)
 
-  pub count-total : (t : A → Bool) (xs : List A) → count t xs ≡ total xs (λ x. bit (t x))
+  pub count-total : (t : A → Bool) (xs : List A) → count t xs ≡ total xs (λ x. bitIf (t x))
   unfolding total
   count-total t [] = refl
   count-total t (x ∷ xs) = omega (arith, count-cons t x xs, count-total t xs)
@@ -157,7 +153,7 @@ pub counts-zero : (t : List ℕ → Bool) → counts 0 t ≡ 0
 unfolding counts sumTo
 counts-zero t = refl
 
-pub counts-suc : (n : ℕ) (t : List ℕ → Bool) → counts (suc n) t ≡ bit (t []) + total ten (λ d. counts n (λ q. t (d ∷ q)))
+pub counts-suc : (n : ℕ) (t : List ℕ → Bool) → counts (suc n) t ≡ bitIf (t []) + total ten (λ d. counts n (λ q. t (d ∷ q)))
 unfolding counts sumTo prefixes
 counts-suc n t = omega (arith, count-cons t [] [], rest)
   where

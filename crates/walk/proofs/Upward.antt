@@ -152,7 +152,3 @@ whole-down k a s =
     (whole-held (List Entry) snoc (λ es. es) (λ e es. refl) k a s
     ∙ walk-up Plain (probe k) (read k) a 8 [] (begun [] s) (omega arith)
     ∙ ap (λ b. behind Plain (probe k) (read k) a [] (walkS Plain (probe k) (read k) 8 [] b s)) (sub-zero a))
-
--- never more probes than the allowance
-pub probes-le : (k : Clock) (a : ℕ) (s : Plain) → (wholeWalk k a s) .probes ≤ a
-probes-le k a s = omega (arith, ap (λ (w : Walked). w .probes) (whole-down k a s))

@@ -1,11 +1,11 @@
 -- 01, "Entries": what a search that is not spent gives, said without the walk.
 use mathlib.Core.Path.{_≡_}
 use mathlib.Core.Bool.{Bool, true, false, _&&_, _||_}
-use mathlib.Core.List.{List, [], _∷_, _++_, map, dropLast}
+use mathlib.Core.List.{List, [], _∷_, map, dropLast}
 use Prim.Native.Nat.{ℕ, zero, suc, _+_}
 use lib.Dec.{eqb, leb, ltb}
 use lib.ListN.{length}
-use Rattle.laws.specs.Words.{if_then_else_, keep, Every, sameList}
+use Rattle.laws.specs.Words.{if_then_else_, keep, Every, sameList, each}
 use Rattle.meter.specs.PlainMeter.{PlainMeter}
 use Rattle.meter.specs.declared.Fault.{Fault}
 use Rattle.meter.specs.declared.Fault.the-variants.{None, Checksum, Truncated, Busy, WrongAddress, Flaky, TooMany}
@@ -57,11 +57,6 @@ having ms p = keep (λ m. begins p (m .digits)) ms
 abbrev pub shared : List PlainMeter → List ℕ → Bool
 shared ms p = leb 2 (length (having ms p))
 
--- f x for each x of a list, one after the other
-abbrev pub each {ℓ} : {A B : Type ℓ} → List A → (A → List B) → List B
-each [] f = []
-each (x ∷ xs) f = f x ++ each xs f
-
 -- all prefixes of k digits
 unfoldable pub prefixes : ℕ → List (List ℕ)
 prefixes zero = [] ∷ []
@@ -97,14 +92,14 @@ entryBy p (m ∷ n ∷ ms) up eight = if eight then many p (length (m ∷ n ∷ 
 abbrev pub entryAt : List PlainMeter → List ℕ → List Entry
 entryAt ms p = entryBy p (having ms p) (parentShared ms p) (eqb (length p) 8)
 
--- all prefixes of 0 to n digits, as in a dictionary: a prefix comes before those that go on from it
-unfoldable pub dictionary : ℕ → List (List ℕ)
-dictionary zero = [] ∷ []
-dictionary (suc n) = [] ∷ each ten (λ d. map (λ q. d ∷ q) (dictionary n))
+-- all prefixes of 0 to n digits, in their order: a prefix comes before those that go on from it
+unfoldable pub prefixesUpTo : ℕ → List (List ℕ)
+prefixesUpTo zero = [] ∷ []
+prefixesUpTo (suc n) = [] ∷ each ten (λ d. map (λ q. d ∷ q) (prefixesUpTo n))
 
 -- "Order is by prefix, digit by digit."
 unfoldable pub entriesOf : List PlainMeter → List Entry
-entriesOf ms = each (dictionary 8) (entryAt ms)
+entriesOf ms = each (prefixesUpTo 8) (entryAt ms)
 
 -- ---- a meter in an entry
 

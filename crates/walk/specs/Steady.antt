@@ -20,5 +20,5 @@ pub record CompleteSearch (ms : List PlainMeter) (w : Walked) : Type 0 where
 -- With no flaky meter at bus baud: spent exactly when (`↔`: both ways) the allowance is below the price; a spent one has the first of 01's entries
 pub record Steady (allowance : ℕ) (ms : List PlainMeter) (w : Walked) : Type 0 where
   pub spent : (w .spent ≡ true) ↔ (allowance < 1 + 10 * D ms)
-  pub sofar : w .spent ≡ true → (rest : List Entry) × (entriesOf ms ≡ w .entries ++ rest)
+  pub soFar : w .spent ≡ true → (rest : List Entry) × (entriesOf ms ≡ w .entries ++ rest)
   pub complete : w .spent ≡ false → CompleteSearch ms w

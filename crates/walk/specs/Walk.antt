@@ -1,14 +1,13 @@
 -- 01, "The search (ours)": the walk over the plain segment.
--- A prefix is a list of digits, most significant first; `d ∷ ds` is a list with the first element d, `++` joins two lists,
--- `.0` and `.1` are the parts of a pair, and `suc n` is n + 1.
+-- A prefix is a list of digits, most significant first.
 use mathlib.Core.Bool.{Bool, true, false, _&&_, _||_}
 use mathlib.Core.List.{List, [], _∷_, _++_}
 use Prim.Native.Nat.{ℕ, zero, suc, _+_, _-_}
 use lib.Dec.{eqb, leb}
-use lib.Bits.{bitAnd}
 use lib.ListN.{length, replicate}
 use Rattle.laws.specs.Words.{if_then_else_, keep}
 use Rattle.frame.specs.Frame.{Telegram, ack, short, long, complete, incomplete, invalid, parse, encode}
+use Rattle.master.specs.Master.{sndUd, reqUd2, isRspUd}
 use Rattle.identity.specs.Identity.{idBytes, nibbles}
 use Rattle.clock.specs.declared.Clock.{Clock}
 use Rattle.matching.specs.Matching.{alike}
@@ -23,11 +22,11 @@ maskDigits p = p ++ replicate (8 - length p) 0xF
 
 -- "A probe is SND_UD (53) to FD, CI 52, eight data bytes: the mask's digits as in the id's little-endian bytes, .., then FF FF FF FF."
 unfoldable pub mask : List ℕ → Telegram
-mask p = long 0x53 0xFD 0x52 (idBytes (maskDigits p) ++ 0xFF ∷ 0xFF ∷ 0xFF ∷ 0xFF ∷ [])
+mask p = sndUd 0xFD 0x52 (idBytes (maskDigits p) ++ 0xFF ∷ 0xFF ∷ 0xFF ∷ 0xFF ∷ [])
 
 -- "REQ_UD2 5B to FD"
 unfoldable pub reading : Telegram
-reading = short 0x5B 0xFD
+reading = reqUd2 0xFD false
 
 -- "masks and readings go through send at its clock, replies come from the queue"; "it takes every reply whole, so that none stays queued".
 -- Send's number is not looked at: no telegram of a search is refused (proofs/Fits.antt, `mask-accepted` and `reading-accepted`).
@@ -50,7 +49,7 @@ pub data Entry : Type 0 where
 unfoldable pub good : List ℕ → Telegram → Bool
 good p ack = false
 good p (short c a) = false
-good p (long c a ci d) = eqb (bitAnd c 0xCF) 0x08 && (eqb ci 0x72 || eqb ci 0x73) && leb 4 (length d) && alike (maskDigits p) (nibbles d)
+good p (long c a ci d) = isRspUd (long c a ci d) && (eqb ci 0x72 || eqb ci 0x73) && leb 4 (length d) && alike (maskDigits p) (nibbles d)
 
 -- "its first four data bytes ..; they are then the entry's id": as eight digits
 unfoldable pub idOf : Telegram → List ℕ

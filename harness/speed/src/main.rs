@@ -147,7 +147,7 @@ fn search(rounds: u32) {
     show("search of 64 meters, 2,031 probes", ours, rust, 0.2);
 }
 
-/// The Rust opens meters that are read already: its part is `check` of each and the segment anew. Ours reads the list's bytes as well.
+/// The Rust opens meters that are read already: its part is `check` of each and the segment anew. The library reads the list's bytes as well.
 fn opening(rounds: u32) {
     let list = many();
     let bytes = list_bytes(&list);

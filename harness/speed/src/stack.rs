@@ -1,4 +1,4 @@
-//! How much stack a search takes: this program runs itself with a thread of that size, less and less, until it dies.
+//! How much stack a search takes: this program runs itself with a thread of that size, less and less, until it fails.
 use super::{open, pairs, NOON};
 use reference::list_bytes;
 use std::process::{Command, Stdio};

@@ -1,5 +1,5 @@
 //! Writes a sample of the Rust's answers: a script of calls (`stdin` of the program `replay`) and what the Rust gives
-//! for it (`stdout`). usage: vectors DIR
+//! for it (`stdout`). usage: vectors DIR [search], with searches
 mod meters;
 mod sample;
 mod segments;

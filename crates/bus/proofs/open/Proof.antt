@@ -1,5 +1,5 @@
-use mathlib.Core.Path.{sym, ap, _∙_}
 use mathlib.Core.List.{[]}
+use mathlib.Core.Path.{sym, ap, _∙_}
 use borrow.Author.Tests.{not-true, not-false}
 use Rattle.bus.specs.View.{plainOf}
 use Rattle.bus.proofs.OpenLaws.{opening-accepted, opening-refused}

@@ -1,4 +1,4 @@
--- `dates::type_f` meets its contract. Assumes nothing.
+-- `dates::type_f` meets its contract.
 use borrow.Author.Needs.{needs}
 use Rattle.dates.specs.Dates.{typeF, typeG}
 use Rattle.dates.proofs.type_f.Statement.{statement}

@@ -1,4 +1,4 @@
--- `dates::type_g` meets its contract. Assumes nothing.
+-- `dates::type_g` meets its contract.
 use borrow.Author.Needs.{needs}
 use mathlib.Core.Path.{_≡_, ap₂}
 use mathlib.Core.List.{[], _∷_}

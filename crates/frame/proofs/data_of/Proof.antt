@@ -1,5 +1,5 @@
 use borrow.Author.Needs.{needs}
-use Rattle.frame.proofs.Cases.{data-part}
+use Rattle.laws.proofs.Copy.{part-min}
 use Rattle.frame.proofs.data_of.Statement.{statement}
 use Rattle.frame.proofs.data_of.Tie as tie
 
@@ -27,7 +27,7 @@ part-result-end c = search needs
 returns : tie.Need-returns
 returns c =
     let a = c .before .before .before .before .args in
-    data-part (a .s .now) (a .len) _ _ (c .before .before .least .ensures) (c .before .least2 .ensures)
+    part-min (a .s .now) 7 (a .len) _ _ (c .before .before .least .ensures) (c .before .least2 .ensures)
 
 pub data-of-spec : {M : Type 1} → statement M
 data-of-spec =

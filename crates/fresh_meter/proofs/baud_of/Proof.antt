@@ -1,4 +1,4 @@
--- `fresh_meter::baud_of` meets its contract. Assumes nothing.
+-- `fresh_meter::baud_of` meets its contract.
 use borrow.Author.Needs.{needs}
 use mathlib.Core.Path.{sym, ap, _∙_}
 use Rattle.fresh_meter.specs.FreshOf.{baudFrom}

@@ -1,4 +1,4 @@
--- `fresh_meter::fresh` meets its contract. Assumes nothing.
+-- `fresh_meter::fresh` meets its contract.
 use borrow.Author.Needs.{needs}
 use Rattle.fresh_meter.specs.FreshOf.{freshOf}
 use Rattle.fresh_meter.proofs.fresh.Statement.{statement}

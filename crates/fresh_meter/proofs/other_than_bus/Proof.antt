@@ -1,4 +1,4 @@
--- `fresh_meter::other_than_bus` meets its contract. Assumes nothing.
+-- `fresh_meter::other_than_bus` meets its contract.
 use borrow.Author.Tests.{eq-eqb, ne-eqb}
 use mathlib.Core.Bool.{and-false}
 use Rattle.fresh_meter.specs.Fresh.{otherThanBus}

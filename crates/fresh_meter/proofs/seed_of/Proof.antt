@@ -1,4 +1,4 @@
--- `fresh_meter::seed_of` meets its contract. Assumes nothing.
+-- `fresh_meter::seed_of` meets its contract.
 use borrow.Author.Needs.{needs}
 use Rattle.fresh_meter.proofs.seed_of.Statement.{statement}
 use Rattle.fresh_meter.proofs.seed_of.Tie as tie

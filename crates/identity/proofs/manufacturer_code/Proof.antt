@@ -1,4 +1,4 @@
--- `identity::manufacturer_code` meets its contract. Assumes nothing.
+-- `identity::manufacturer_code` meets its contract.
 use borrow.Author.Needs.{needs}
 use native.Mathlib.Omega.{arith}
 use Rattle.identity.proofs.IdentityLaws.{code-none, code-one, code-two, code-three}

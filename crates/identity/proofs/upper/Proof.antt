@@ -1,4 +1,4 @@
--- `identity::upper` meets its contract. Assumes nothing.
+-- `identity::upper` meets its contract.
 use borrow.Author.Needs.{needs}
 use borrow.Author.Tests.{le-leb, lt-leb}
 use Rattle.identity.proofs.upper.Statement.{statement}

@@ -1,6 +1,5 @@
--- `image::head_bytes` meets its contract. Assumes nothing.
+-- `image::head_bytes` meets its contract.
 use mathlib.Core.Path.{sym, ap, _∙_, subst}
-use native.Mathlib.Omega.{arith}
 use lib.Dec.{T}
 use lib.Ieee.{binary64, fits, ofBits}
 use lib.Ieee.Bits.{ofBits-toBits}

@@ -1,13 +1,14 @@
--- `image::read_image` meets its contract. Assumes nothing.
+-- `image::read_image` meets its contract.
 use mathlib.Core.Path.{sym, ap, _∙_}
 use Prim.Native.Nat.{ℕ, _*_, min}
 use native.Mathlib.Omega.{arith}
 use lib.Ieee.{binary64, ofBits}
 use lib.ListN.{drop}
+use Rattle.laws.proofs.Lists.{take-rest}
 use Rattle.scenarios.specs.Opening.{capacity}
 use Rattle.numbers.specs.Number.{number}
 use Rattle.image.specs.Image.{block, meters}
-use Rattle.image.proofs.Blocks.{rest, length-rest}
+use Rattle.image.proofs.Blocks.{length-rest}
 use Rattle.image.proofs.Whole.{image-is}
 use borrow.Author.Needs.{needs}
 use Rattle.image.proofs.read_image.Statement.{statement}
@@ -113,7 +114,7 @@ returns c =
     (ap (λ (n : ℕ). block 18 n bs) (sym (w .least2 .ensures ∙ ap (λ (n : ℕ). min n 260) (w .before .two2 .ensures))) ∙ sym (m .before .before .before .read-input .ensures))
     (ap (λ (n : ℕ). block 278 n bs) (sym (q .least3 .ensures ∙ ap (λ (n : ℕ). min n 4096) (q .before .two3 .ensures))) ∙ sym (m .before .before .read-queue .ensures))
     (ap (λ (n : ℕ). meters n (drop 4374 bs)) (sym (n .least .ensures ∙ ap (λ (n : ℕ). min n capacity) (n .before .two .ensures)))
-    ∙ sym (m .read-meters .ensures ∙ ap (meters (n .least .result)) (rest 4374 bs))))
+    ∙ sym (m .read-meters .ensures ∙ ap (meters (n .least .result)) (take-rest bs 4374))))
 
 pub read-image-spec : {M : Type 1} → statement M
 read-image-spec =

@@ -1,4 +1,4 @@
--- `image::read_input` meets its contract. Assumes nothing.
+-- `image::read_input` meets its contract.
 use mathlib.Core.Path.{ap, _∙_}
 use Prim.Native.Nat.{_+_, _≤_}
 use native.Mathlib.Omega.{arith}

@@ -1,4 +1,4 @@
--- `image::read_meters` meets its contract. Assumes nothing.
+-- `image::read_meters` meets its contract.
 use mathlib.Core.Path.{_≡_, ap, _∙_}
 use Prim.Native.Nat.{ℕ, _+_, _*_, _-_, _≤_}
 use native.Mathlib.Omega.{arith}

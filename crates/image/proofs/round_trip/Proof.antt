@@ -1,4 +1,4 @@
--- `image::round_trip` meets its contract. Assumes nothing.
+-- `image::round_trip` meets its contract.
 use mathlib.Core.Path.{_∙_}
 use borrow.Author.Needs.{needs}
 use Rattle.image.proofs.round_trip.Statement.{statement}

@@ -1,4 +1,4 @@
--- `image::write_image` meets its contract. Assumes nothing.
+-- `image::write_image` meets its contract.
 use lib.ListN.{length}
 use borrow.Author.Needs.{needs}
 use Rattle.scenarios.specs.Opening.{capacity}

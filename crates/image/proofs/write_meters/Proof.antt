@@ -1,4 +1,4 @@
--- `image::write_meters` meets its contract. Assumes nothing.
+-- `image::write_meters` meets its contract.
 use mathlib.Core.Path.{_≡_, refl, sym, ap, subst, _∙_}
 use Prim.Native.Nat.{_+_, _*_, _-_, _≤_}
 use native.Mathlib.Omega.{arith}

@@ -1,15 +1,16 @@
--- `image::write_parts` meets its contract. Assumes nothing.
+-- `image::write_parts` meets its contract.
 use mathlib.Core.Path.{_≡_, sym, ap, _∙_}
 use mathlib.Core.List.{List, _++_, map}
 use Prim.Native.Nat.{ℕ, _-_, _*_}
 use native.Mathlib.Omega.{arith}
 use lib.ListN.{length, take, drop, replicate}
-use Rattle.laws.specs.Rows.{rows}
+use Rattle.laws.specs.Words.{each}
+use Rattle.laws.proofs.Lists.{take-rest}
 use Rattle.laws.proofs.Sweep.{length-mapped}
 use Rattle.meter.specs.View.{plainMeter}
 use Rattle.meter_image.specs.MeterBytes.{meterBytes}
 use Rattle.scenarios.specs.Opening.{capacity}
-use Rattle.image.proofs.Blocks.{rest, nothing-left, length-rest}
+use Rattle.image.proofs.Blocks.{nothing-left, length-rest}
 use Rattle.image.proofs.Whole.{Copies, copies}
 use Rattle.image.proofs.Exact.{exact}
 use borrow.Author.Needs.{needs}
@@ -122,7 +123,7 @@ returns c =
       second = g .copy2 .ensures;
       third = h .copy3 .ensures;
       ms-long = m .write-meters .kept .1 .1 .0 ∙ write-meters-requires (m .before) (m .write-meters .lifetimes) .0;
-      rows-are = wrote .0 ∙ ap (λ (l : List ℕ). rows meterBytes (map plainMeter (take n (s .args .s .meters))) ++ drop (25 * n) l) (rest 4374 l₃);
+      rows-are = wrote .0 ∙ ap (λ (l : List ℕ). each (map plainMeter (take n (s .args .s .meters))) meterBytes ++ drop (25 * n) l) (take-rest l₃ 4374);
       last = wrote .1;
     } in
     let end = drop (length l₃ - 4374) (drop 4374 l₃) in

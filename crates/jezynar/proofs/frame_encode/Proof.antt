@@ -1,4 +1,4 @@
--- `jezynar::frame_encode` meets its contract. Assumes nothing.
+-- `jezynar::frame_encode` meets its contract.
 use borrow.Author.Needs.{needs}
 use Rattle.jezynar.proofs.frame_encode.Statement.{statement}
 use Rattle.jezynar.proofs.frame_encode.Tie as tie

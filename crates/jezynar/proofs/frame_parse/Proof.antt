@@ -1,4 +1,4 @@
--- `jezynar::frame_parse` meets its contract. Assumes nothing.
+-- `jezynar::frame_parse` meets its contract.
 use borrow.Author.Needs.{needs}
 use Rattle.jezynar.proofs.frame_parse.Statement.{statement}
 use Rattle.jezynar.proofs.frame_parse.Tie as tie

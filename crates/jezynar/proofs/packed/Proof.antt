@@ -1,4 +1,4 @@
--- `jezynar::packed` meets its contract. Assumes nothing.
+-- `jezynar::packed` meets its contract.
 use native.Mathlib.Omega.{arith}
 use borrow.Author.Needs.{needs}
 use Rattle.jezynar.proofs.packed.Statement.{statement}

@@ -1,4 +1,4 @@
--- `jezynar::segment_clear` meets its contract. Assumes nothing.
+-- `jezynar::segment_clear` meets its contract.
 use mathlib.Core.Path.{ap, _∙_}
 use Rattle.bus.specs.Calls as calls
 use Rattle.jezynar.proofs.ImageLaws.{image-of}

@@ -1,4 +1,4 @@
--- `jezynar::segment_new` meets its contract. Assumes nothing.
+-- `jezynar::segment_new` meets its contract.
 use Rattle.jezynar.proofs.ImageLaws.{image-of}
 use borrow.Author.Needs.{needs}
 use Rattle.jezynar.proofs.segment_new.Statement.{statement}

@@ -1,4 +1,4 @@
--- `jezynar::segment_open` meets its contract. Assumes nothing.
+-- `jezynar::segment_open` meets its contract.
 use mathlib.Core.Path.{refl, sym, ap, _∙_}
 use native.Mathlib.Omega.{arith}
 use Rattle.scenarios.specs.Opening.{openList}

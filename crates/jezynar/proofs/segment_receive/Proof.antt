@@ -1,4 +1,4 @@
--- `jezynar::segment_receive` meets its contract. Assumes nothing.
+-- `jezynar::segment_receive` meets its contract.
 use Rattle.bus.specs.View.{plainOf}
 use Rattle.jezynar.proofs.ImageLaws.{received-call}
 use borrow.Author.Needs.{needs}

@@ -1,4 +1,4 @@
--- `jezynar::segment_search` meets its contract. Assumes nothing.
+-- `jezynar::segment_search` meets its contract.
 use borrow.Author.Needs.{needs}
 use Rattle.jezynar.proofs.segment_search.Statement.{statement}
 use Rattle.jezynar.proofs.segment_search.Tie as tie

@@ -1,5 +1,5 @@
--- `jezynar::segment_send` meets its contract. Assumes nothing.
-use mathlib.Core.Path.{ap, sym, _∙_}
+-- `jezynar::segment_send` meets its contract.
+use mathlib.Core.Path.{sym, _∙_}
 use native.Mathlib.Omega.{arith}
 use Rattle.send.proofs.Slips.{refused-stays}
 use Rattle.clock.specs.declared.Clock.{Clock}

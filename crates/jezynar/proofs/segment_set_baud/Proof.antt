@@ -1,5 +1,5 @@
--- `jezynar::segment_set_baud` meets its contract. Assumes nothing.
-use mathlib.Core.Path.{ap, sym, _∙_}
+-- `jezynar::segment_set_baud` meets its contract.
+use mathlib.Core.Path.{sym, _∙_}
 use native.Mathlib.Omega.{arith}
 use Rattle.bus.specs.Calls as calls
 use Rattle.bus.specs.View.{plainOf, changedOf}

@@ -1,4 +1,4 @@
--- `meter_list::at_of` meets its contract. Assumes nothing.
+-- `meter_list::at_of` meets its contract.
 use borrow.Author.Needs.{needs}
 use mathlib.Core.Path.{sym, ap}
 use Rattle.meter_list.specs.Reading.{atOf}

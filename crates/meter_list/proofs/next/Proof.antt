@@ -1,5 +1,4 @@
 -- `meter_list::next` meets its contract: a walk of its MIR, by hand. The struct is taken apart, the covered `record_at` is called on the slice and the number, the covered `at_of` on the number and the step, and the result is put together: a struct that holds the reader past the step, and the step.
--- Assumes nothing.
 use mathlib.Core.Path.{_≡_, refl, ap, subst, _∙_}
 use Prim.Native.Nat.{ℕ, _<_, _^_}
 use mathlib.Core.List.{[], _∷_, head-eq-of-cons-eq}
@@ -56,7 +55,6 @@ use Rattle.meter_list.proofs.layout.record_at.Symbol.{name as #meter-li
 use Rattle.meter_list.proofs.layout.record_at.Met as step-thm
 use Rattle.meter_list.proofs.Read as RD
 use Rattle.meter_list.proofs.Read.Laws as RD′
-use Rattle.meter_list.specs.declared.Read.{Read}
 use Rattle.meter_list.proofs.at_of as at-of
 use Rattle.meter_list.proofs.at_of.Symbol as at-of-def
 use Rattle.meter_list.proofs.at_of.Symbol.{name as #meter-list·at-of}

@@ -1,4 +1,4 @@
--- `numbers::four` meets its contract. Assumes nothing.
+-- `numbers::four` meets its contract.
 use native.Mathlib.Omega.{arith}
 use Rattle.numbers.specs.Number.{number}
 use borrow.Author.Needs.{needs}

@@ -1,4 +1,4 @@
--- `numbers::two` meets its contract. Assumes nothing.
+-- `numbers::two` meets its contract.
 use native.Mathlib.Omega.{arith}
 use Rattle.numbers.specs.Number.{number}
 use borrow.Author.Needs.{needs}

@@ -1,7 +1,6 @@
 -- `scenarios::gather` meets its contract: a walk of its MIR, by hand. A reader is made of the list, and a loop hands it to `next`, keeps the reader that comes back, and gathers by the covered `admit`, to which the list is lent again.
 -- What the slice owns can be had twice: a turn makes what the reader owns of one copy, for the call, and keeps the other; so for `admit`. So the loop carries the slice, the token and plain values alone.
--- Assumes nothing.
-use mathlib.Core.Path.{_≡_, refl, sym, ap, subst, _∙_}
+use mathlib.Core.Path.{_≡_, refl, ap, subst, _∙_}
 use Prim.Native.Nat.{ℕ, _+_, _-_, _≤_, _<_, _^_, zero-le}
 use native.Mathlib.Nat.{le-antisymm, lt-of-le-of-lt}
 use native.Mathlib.Numerals.{add-one-le, add-one-dec}

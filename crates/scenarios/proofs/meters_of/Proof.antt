@@ -1,4 +1,4 @@
--- `scenarios::meters_of` meets its contract. Assumes nothing.
+-- `scenarios::meters_of` meets its contract.
 use borrow.Author.Needs.{needs}
 use mathlib.Core.Path.{refl, sym, _∙_}
 use native.Mathlib.Omega.{arith}

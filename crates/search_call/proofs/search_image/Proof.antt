@@ -1,4 +1,4 @@
--- `search_call::search_image` meets its contract. Assumes nothing.
+-- `search_call::search_image` meets its contract.
 use mathlib.Core.Path.{_≡_, sym, _∙_}
 use native.Mathlib.Omega.{arith}
 use lib.ListN.{length}

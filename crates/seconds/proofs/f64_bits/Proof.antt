@@ -1,4 +1,4 @@
--- `seconds::f64_bits` meets its contract. Assumes nothing.
+-- `seconds::f64_bits` meets its contract.
 use borrow.Author.Needs.{needs}
 use mathlib.Core.Path.{_≡_, refl, sym, ap, _∙_, subst}
 use mathlib.Core.Bool.{true}

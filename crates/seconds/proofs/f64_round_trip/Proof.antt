@@ -1,4 +1,4 @@
--- `seconds::f64_round_trip` meets its contract: a float of the format is the float of its pattern. Assumes nothing.
+-- `seconds::f64_round_trip` meets its contract: a float of the format is the float of its pattern.
 use borrow.Author.Needs.{needs}
 use mathlib.Core.Path.{sym, ap, _∙_, subst}
 use lib.Dec.{T}

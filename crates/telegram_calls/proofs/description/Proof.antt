@@ -1,9 +1,9 @@
--- `telegram_calls::description` meets its contract. Assumes nothing.
+-- `telegram_calls::description` meets its contract.
 use mathlib.Core.Path.{ap, _∙_}
 use mathlib.Core.List.{List, [], _∷_, _++_}
 use Prim.Native.Nat.{ℕ}
 use Rattle.values.specs.Values.{little}
-use Rattle.telegram_calls.proofs.TelegramLaws.{blocks-before}
+use Rattle.laws.proofs.Lists.{blocks-before}
 use borrow.Author.Needs.{needs}
 use Rattle.telegram_calls.proofs.description.Statement.{statement}
 use Rattle.telegram_calls.proofs.description.Tie as tie

@@ -1,11 +1,10 @@
--- `telegram_calls::encode` meets its contract. Assumes nothing.
-use mathlib.Core.Path.{_≡_, ap, _∙_}
-use Prim.Native.Nat.{ℕ, _+_, _*_}
+-- `telegram_calls::encode` meets its contract.
+use mathlib.Core.Path.{ap, _∙_}
+use Prim.Native.Nat.{_+_, _*_}
 use native.Mathlib.Omega.{arith}
 use Rattle.frame.specs.Frame.{Telegram}
 use Rattle.telegram_writer.specs.Writer.{Written, write}
 use Rattle.frame.specs.View.{telegramOf}
-use Rattle.telegram_writer.specs.View.{writtenOf, writtenCount}
 use Rattle.telegram_calls.proofs.TelegramLaws.{written-most}
 use borrow.Author.Needs.{needs}
 use Rattle.telegram_calls.proofs.encode.Statement.{statement}

@@ -1,7 +1,6 @@
--- `telegram_calls::frame_by` meets its contract. Assumes nothing.
+-- `telegram_calls::frame_by` meets its contract.
 use borrow.Author.Tests.{eq-eqb, ne-eqb}
 use Rattle.telegram_calls.specs.Telegrams.{telegramBy}
-use borrow.Author.Needs.{needs}
 use Rattle.telegram_calls.proofs.frame_by.Statement.{statement}
 use Rattle.telegram_calls.proofs.frame_by.Tie as tie
 

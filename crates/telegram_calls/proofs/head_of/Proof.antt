@@ -1,4 +1,4 @@
--- `telegram_calls::head_of` meets its contract. Assumes nothing.
+-- `telegram_calls::head_of` meets its contract.
 use mathlib.Core.Path.{ap, sym}
 use Rattle.frame.specs.View.{telegramOf}
 use Rattle.telegram_calls.specs.Telegrams.{headOf}

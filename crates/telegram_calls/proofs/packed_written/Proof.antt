@@ -1,6 +1,6 @@
--- `telegram_calls::packed_written` meets its contract. Assumes nothing.
-use mathlib.Core.Path.{_≡_, ap, sym, _∙_}
-use Prim.Native.Nat.{_+_, _*_, _<_}
+-- `telegram_calls::packed_written` meets its contract.
+use mathlib.Core.Path.{ap, sym}
+use Prim.Native.Nat.{_+_, _*_}
 use native.Mathlib.Omega.{arith}
 use Rattle.telegram_writer.specs.View.{writtenNumber, writtenCount}
 use borrow.Author.Needs.{needs}

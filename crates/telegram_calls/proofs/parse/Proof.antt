@@ -1,4 +1,4 @@
--- `telegram_calls::parse` meets its contract. Assumes nothing.
+-- `telegram_calls::parse` meets its contract.
 use mathlib.Core.Path.{_≡_, sym, ap, _∙_}
 use mathlib.Core.List.{List, [], _∷_, _++_}
 use Prim.Native.Nat.{ℕ}

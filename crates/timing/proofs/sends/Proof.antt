@@ -1,4 +1,4 @@
--- `timing::sends` meets its contract. Assumes nothing.
+-- `timing::sends` meets its contract.
 use mathlib.Core.Path.{sym, subst}
 use Prim.Native.Nat.{ℕ, _+_, _-_, _≤_}
 use native.Mathlib.Omega.{arith}

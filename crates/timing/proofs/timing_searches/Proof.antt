@@ -1,4 +1,4 @@
--- `timing::timing_searches` meets its contract. Assumes nothing.
+-- `timing::timing_searches` meets its contract.
 use mathlib.Core.Path.{ap, _∙_}
 use Prim.Native.Nat.{_%_, _^_}
 use borrow.Author.Needs.{needs}

@@ -1,4 +1,4 @@
--- `timing::timing_sends` meets its contract. Assumes nothing.
+-- `timing::timing_sends` meets its contract.
 use mathlib.Core.Path.{ap, _∙_}
 use borrow.Author.Needs.{needs}
 use Rattle.timing.specs.Repeated.{acceptedSends}

@@ -1,4 +1,4 @@
--- `values::bcd6` meets its contract. Assumes nothing.
+-- `values::bcd6` meets its contract.
 use borrow.Author.Needs.{needs}
 use mathlib.Core.Path.{sym}
 use Rattle.values.specs.Values.{bcd}

@@ -1,9 +1,8 @@
--- `image::copying::blank` meets its contract. Assumes nothing.
+-- `image::copying::blank` meets its contract.
 use mathlib.Core.Path.{_≡_, refl, sym, ap, _∙_}
-use mathlib.Core.List.{_++_}
 use Prim.Native.Nat.{ℕ, _-_, _≤_}
 use native.Mathlib.Omega.{arith}
-use lib.ListN.{length, drop, length-set, replicate, length-replicate, getD-replicate}
+use lib.ListN.{length, length-set, replicate, length-replicate, getD-replicate}
 use lib.Seq.{paste}
 use Rattle.laws.proofs.Copy.{Copied, copied-none, copied-more}
 use Rattle.image.proofs.Filled.{paste-whole}

@@ -1,4 +1,4 @@
--- `image::copying::copy` meets its contract. Assumes nothing.
+-- `image::copying::copy` meets its contract.
 use mathlib.Core.Path.{_≡_, refl, sym, ap, _∙_}
 use Prim.Native.Nat.{_+_, _-_, _≤_}
 use native.Mathlib.Omega.{arith}

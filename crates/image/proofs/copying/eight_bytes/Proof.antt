@@ -1,4 +1,4 @@
--- `image::copying::eight_bytes` meets its contract. Assumes nothing.
+-- `image::copying::eight_bytes` meets its contract.
 use Rattle.image.proofs.HeadLaws.{little-eight}
 use borrow.Author.Needs.{needs}
 use Rattle.image.proofs.copying.eight_bytes.Statement.{statement}

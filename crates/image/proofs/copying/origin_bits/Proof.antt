@@ -1,4 +1,4 @@
--- `image::copying::origin_bits` meets its contract. Assumes nothing.
+-- `image::copying::origin_bits` meets its contract.
 use mathlib.Core.Path.{_≡_}
 use native.Mathlib.Omega.{arith}
 use Rattle.numbers.specs.Number.{number}

@@ -1,4 +1,4 @@
--- `meter_image::meters::last` meets its contract. Assumes nothing.
+-- `meter_image::meters::last` meets its contract.
 use mathlib.Core.Path.{sym, ap}
 use Prim.Native.Nat.{_≤_}
 use native.Mathlib.Omega.{arith}

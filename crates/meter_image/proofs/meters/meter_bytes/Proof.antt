@@ -1,4 +1,4 @@
--- `meter_image::meters::meter_bytes` meets its contract. Assumes nothing.
+-- `meter_image::meters::meter_bytes` meets its contract.
 use mathlib.Core.Path.{refl, ap, _∙_}
 use Rattle.numbers.specs.Number.{number}
 use Rattle.meter_image.specs.MeterBytes.{flagBy, modelBy, faultBy, lastBy}
@@ -82,7 +82,7 @@ returns c =
     let b = c .before .before .before .before .before in
     let m = b .before .before .before .before .args .m in
     let id = b .before .before .before .four-bytes .ensures in
-    let maker = b .before .before .two-bytes .ensures in
+    let manufacturer = b .before .before .two-bytes .ensures in
     let baud = b .before .four-bytes2 .ensures in
     let seed = b .four-bytes3 .ensures in
     let model = c .before .before .before .before .model-byte .ensures in
@@ -90,8 +90,8 @@ returns c =
     let selected = c .before .before .flag-byte .ensures in
     let last = c .before .last-byte .ensures in
     let hearing = c .flag-byte2 .ensures in (
-      bytes-are m _ _ _ _ _ _ _ _ _ (id .0) (maker .0) (baud .0) (seed .0) model fault selected last hearing,
-      meter-is _ m refl (id .1) (maker .1) refl refl
+      bytes-are m _ _ _ _ _ _ _ _ _ (id .0) (manufacturer .0) (baud .0) (seed .0) model fault selected last hearing,
+      meter-is _ m refl (id .1) (manufacturer .1) refl refl
           (ap modelBy model ∙ model-back (m .model)) (ap faultBy fault ∙ fault-back (m .fault)) refl (baud .1)
           (ap flagBy selected ∙ flag-back (m .selected)) refl (ap lastBy last ∙ last-back (m .last)) refl (seed .1)
           (ap flagBy hearing ∙ flag-back (m .hearing)),

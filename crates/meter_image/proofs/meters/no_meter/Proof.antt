@@ -1,4 +1,4 @@
--- `meter_image::meters::no_meter` meets its contract. Assumes nothing.
+-- `meter_image::meters::no_meter` meets its contract.
 use mathlib.Core.Path.{refl}
 use Rattle.identity.specs.Identity.{digitsOf}
 use Rattle.meter_image.specs.MeterBytes.{metered}

@@ -1,4 +1,4 @@
--- `meter_image::meters::read_meter` meets its contract. Assumes nothing.
+-- `meter_image::meters::read_meter` meets its contract.
 use mathlib.Core.Path.{refl, sym, ap, _∙_}
 use Rattle.meter_image.specs.MeterBytes.{metered}
 use Rattle.numbers.specs.Number.{number}

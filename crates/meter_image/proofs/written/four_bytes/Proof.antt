@@ -1,4 +1,4 @@
--- `meter_image::written::four_bytes` meets its contract. Assumes nothing.
+-- `meter_image::written::four_bytes` meets its contract.
 use mathlib.Core.Path.{ap, _∙_}
 use Rattle.numbers.specs.Number.{number}
 use Rattle.numbers.proofs.NumberLaws.{number-little}

@@ -1,4 +1,4 @@
--- `meter_list::layout::count_from` meets its contract. Assumes nothing.
+-- `meter_list::layout::count_from` meets its contract.
 use borrow.Author.Needs.{needs}
 use mathlib.Core.Path.{sym, _∙_}
 use Prim.Native.Nat.{_-_}

@@ -1,4 +1,4 @@
--- `meter_list::layout::layout` meets its contract. Assumes nothing.
+-- `meter_list::layout::layout` meets its contract.
 use borrow.Author.Needs.{needs}
 use mathlib.Core.Path.{_∙_}
 use Rattle.meter_list.proofs.CountLaws.{shape-short, shape-version, shape-length, shape-records}

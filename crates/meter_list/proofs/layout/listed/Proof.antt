@@ -1,4 +1,4 @@
--- `meter_list::layout::listed` meets its contract. Assumes nothing.
+-- `meter_list::layout::listed` meets its contract.
 use borrow.Author.Needs.{needs}
 use Rattle.meter_list.proofs.StepLaws.{placed-is}
 use Rattle.meter_list.proofs.layout.listed.Statement.{statement}

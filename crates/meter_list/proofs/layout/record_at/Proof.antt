@@ -1,4 +1,4 @@
--- `meter_list::layout::record_at` meets its contract. Assumes nothing.
+-- `meter_list::layout::record_at` meets its contract.
 use borrow.Author.Needs.{needs}
 use Rattle.meter_list.proofs.StepLaws.{step-end, step-short, step-over, step-record}
 use mathlib.Core.Path.{_∙_}

@@ -1,4 +1,4 @@
--- `meter_list::layout::record_to` meets its contract. Assumes nothing.
+-- `meter_list::layout::record_to` meets its contract.
 use mathlib.Core.Path.{ap, _∙_}
 use borrow.Author.Needs.{needs}
 use Rattle.meter_list.specs.declared.Listed.{Listed}

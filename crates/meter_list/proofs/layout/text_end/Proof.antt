@@ -1,4 +1,4 @@
--- `meter_list::layout::text_end` meets its contract. Assumes nothing.
+-- `meter_list::layout::text_end` meets its contract.
 use borrow.Author.Needs.{needs}
 use Rattle.meter_list.proofs.StepLaws.{end-none, end-past, end-over, end-in}
 use Rattle.meter_list.proofs.layout.text_end.Statement.{statement}

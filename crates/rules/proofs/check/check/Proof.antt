@@ -1,10 +1,10 @@
--- `rules::check::check` meets its contract. Assumes nothing.
+-- `rules::check::check` meets its contract.
 use borrow.Author.Needs.{needs}
 use mathlib.Core.Path.{sym, _∙_}
 use native.Mathlib.Omega.{arith}
 use borrow.Author.Tests.{not-true, not-false}
 use Rattle.meter_list.specs.Reading.{listedOf}
-use Rattle.rules.proofs.VerdictLaws.{gives-primary, gives-id, gives-maker, gives-medium, gives-baud, gives-fault, gives-values}
+use Rattle.rules.proofs.VerdictLaws.{gives-primary, gives-id, gives-manufacturer, gives-medium, gives-baud, gives-fault, gives-values}
 use Rattle.rules.proofs.check.check.Statement.{statement}
 use Rattle.rules.proofs.check.check.Tie as tie
 
@@ -33,7 +33,7 @@ good-manufacturer-requires : tie.Need-good-manufacturer-requires
 good-manufacturer-requires c κs = search needs
 
 returns-3 : tie.Need-returns-3
-returns-3 c = gives-maker (listedOf (c .before .before .before .before .before .before .before .before .before .before .before .args .list .now) (c .before .before .before .before .before .before .before .before .before .before .before .args .r)) (record { id = c .before .before .before .before .before .before .before .before .before .text .ensures; manufacturer = c .before .before .before .before .before .before .before .before .text2 .ensures; medium = c .before .before .before .before .before .before .before .text3 .ensures; fault = c .before .before .before .before .before .before .text4 .ensures }) (omega arith) (sym (c .before .before .before .good-id .ensures) ∙ not-false _ (c .before .before .if2 .left)) (sym (c .before .good-manufacturer .ensures) ∙ not-true _ (c .if3 .taken))
+returns-3 c = gives-manufacturer (listedOf (c .before .before .before .before .before .before .before .before .before .before .before .args .list .now) (c .before .before .before .before .before .before .before .before .before .before .before .args .r)) (record { id = c .before .before .before .before .before .before .before .before .before .text .ensures; manufacturer = c .before .before .before .before .before .before .before .before .text2 .ensures; medium = c .before .before .before .before .before .before .before .text3 .ensures; fault = c .before .before .before .before .before .before .text4 .ensures }) (omega arith) (sym (c .before .before .before .good-id .ensures) ∙ not-false _ (c .before .before .if2 .left)) (sym (c .before .good-manufacturer .ensures) ∙ not-true _ (c .if3 .taken))
 
 find-medium-requires : tie.Need-find-medium-requires
 find-medium-requires c κs = search needs

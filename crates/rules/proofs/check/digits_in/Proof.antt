@@ -1,4 +1,4 @@
--- `rules::check::digits_in` meets its contract. Assumes nothing.
+-- `rules::check::digits_in` meets its contract.
 use native.Mathlib.Omega.{arith}
 use mathlib.Core.Path.{refl}
 use Prim.Native.Nat.{_-_}

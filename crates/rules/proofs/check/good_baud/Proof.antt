@@ -1,4 +1,4 @@
--- `rules::check::good_baud` meets its contract. Assumes nothing.
+-- `rules::check::good_baud` meets its contract.
 use borrow.Author.Needs.{needs}
 use Rattle.rules.proofs.CheckLaws.{baud-none, baud-rate}
 use Rattle.rules.proofs.check.good_baud.Statement.{statement}

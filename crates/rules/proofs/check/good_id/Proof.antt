@@ -1,4 +1,4 @@
--- `rules::check::good_id` meets its contract. Assumes nothing.
+-- `rules::check::good_id` meets its contract.
 use borrow.Author.Needs.{needs}
 use Rattle.rules.proofs.CheckLaws.{id-other, id-eight}
 use Rattle.rules.proofs.check.good_id.Statement.{statement}

@@ -1,6 +1,6 @@
--- `rules::check::good_manufacturer` meets its contract. Assumes nothing.
+-- `rules::check::good_manufacturer` meets its contract.
 use borrow.Author.Needs.{needs}
-use Rattle.rules.proofs.CheckLaws.{maker-none, maker-other, maker-three}
+use Rattle.rules.proofs.CheckLaws.{manufacturer-none, manufacturer-other, manufacturer-three}
 use Rattle.rules.proofs.check.good_manufacturer.Statement.{statement}
 use Rattle.rules.proofs.check.good_manufacturer.Tie as tie
 
@@ -11,16 +11,16 @@ same-text-requires : tie.Need-same-text-requires
 same-text-requires c κs = search needs
 
 returns : tie.Need-returns
-returns c = maker-none (c .before .before .before .before .before .args .t .now) (c .before .before .before .before .before .args .medium .now) (search needs) (c .same-text .ensures)
+returns c = manufacturer-none (c .before .before .before .before .before .args .t .now) (c .before .before .before .before .before .args .medium .now) (search needs) (c .same-text .ensures)
 
 returns-2 : tie.Need-returns-2
-returns-2 c = maker-other (c .before .before .before .before .args .t .now) (c .before .before .before .before .args .medium .now) (search needs) (search needs)
+returns-2 c = manufacturer-other (c .before .before .before .before .args .t .now) (c .before .before .before .before .args .medium .now) (search needs) (search needs)
 
 all-within-requires : tie.Need-all-within-requires
 all-within-requires c κs = search needs
 
 returns-3 : tie.Need-returns-3
-returns-3 c = maker-three (c .before .before .before .before .before .args .t .now) (c .before .before .before .before .before .args .medium .now) (search needs) (c .all-within .ensures)
+returns-3 c = manufacturer-three (c .before .before .before .before .before .args .t .now) (c .before .before .before .before .before .args .medium .now) (search needs) (c .all-within .ensures)
 
 pub good-manufacturer-spec : {M : Type 1} → statement M
 good-manufacturer-spec =

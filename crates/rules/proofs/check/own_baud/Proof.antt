@@ -1,4 +1,4 @@
--- `rules::check::own_baud` meets its contract. Assumes nothing.
+-- `rules::check::own_baud` meets its contract.
 use borrow.Author.Tests.{eq-eqb, ne-eqb}
 use Rattle.rules.proofs.check.own_baud.Statement.{statement}
 use Rattle.rules.proofs.check.own_baud.Tie as tie

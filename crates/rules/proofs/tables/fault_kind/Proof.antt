@@ -1,4 +1,4 @@
--- `rules::tables::fault_kind` meets its contract. Assumes nothing.
+-- `rules::tables::fault_kind` meets its contract.
 use borrow.Author.Needs.{needs}
 use native.Mathlib.Omega.{arith}
 use Rattle.rules.specs.Tables.{FaultKey, faults, fault-none}

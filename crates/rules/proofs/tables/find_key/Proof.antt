@@ -1,4 +1,4 @@
--- `rules::tables::find_key` meets its contract. Assumes nothing.
+-- `rules::tables::find_key` meets its contract.
 use borrow.Author.Needs.{needs}
 use mathlib.Core.Path.{sym, _∙_}
 use Rattle.rules.proofs.KeyLaws.{key-same, KeyTo, key-none, key-found, key-more, key-all}

@@ -1,4 +1,4 @@
--- `rules::tables::find_medium` meets its contract. Assumes nothing.
+-- `rules::tables::find_medium` meets its contract.
 use borrow.Author.Needs.{needs}
 use mathlib.Core.Path.{refl}
 use Rattle.rules.specs.Tables.{media}

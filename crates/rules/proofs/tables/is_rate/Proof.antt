@@ -1,4 +1,4 @@
--- `rules::tables::is_rate` meets its contract. Assumes nothing.
+-- `rules::tables::is_rate` meets its contract.
 use borrow.Author.Needs.{needs}
 use Prim.Native.Nat.{_-_}
 use native.Mathlib.Omega.{arith}

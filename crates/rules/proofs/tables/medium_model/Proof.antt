@@ -1,4 +1,4 @@
--- `rules::tables::medium_model` meets its contract. Assumes nothing.
+-- `rules::tables::medium_model` meets its contract.
 use borrow.Author.Needs.{needs}
 use native.Mathlib.Omega.{arith}
 use Rattle.rules.specs.Tables.{Medium, media, medium-water}

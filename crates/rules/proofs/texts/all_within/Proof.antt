@@ -1,4 +1,4 @@
--- `rules::texts::all_within` meets its contract. Assumes nothing.
+-- `rules::texts::all_within` meets its contract.
 use Prim.Native.Nat.{_-_}
 use native.Mathlib.Omega.{arith}
 use lib.ListN.{length}

@@ -1,4 +1,4 @@
--- `rules::texts::same_text` meets its contract. Assumes nothing.
+-- `rules::texts::same_text` meets its contract.
 use borrow.Author.Needs.{needs}
 use Prim.Native.Nat.{_-_}
 use native.Mathlib.Omega.{arith}

@@ -1,6 +1,6 @@
--- `rules::texts::text` meets its contract. Assumes nothing.
+-- `rules::texts::text` meets its contract.
 use borrow.Author.Needs.{needs}
-use Rattle.rules.proofs.TextLaws.{text-is}
+use Rattle.laws.proofs.Copy.{part-min}
 use Rattle.rules.proofs.texts.text.Statement.{statement}
 use Rattle.rules.proofs.texts.text.Tie as tie
 
@@ -26,7 +26,7 @@ part-result-end : tie.Need-part-result-end
 part-result-end c = search needs
 
 returns : tie.Need-returns
-returns c = text-is _ _ _ _ _ (c .before .before .least .ensures) (c .before .least2 .ensures)
+returns c = part-min _ _ _ _ _ (c .before .before .least .ensures) (c .before .least2 .ensures)
 
 pub text-spec : {M : Type 1} → statement M
 text-spec =

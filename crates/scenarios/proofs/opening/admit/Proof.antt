@@ -1,4 +1,4 @@
--- `scenarios::opening::admit` meets its contract. Assumes nothing.
+-- `scenarios::opening::admit` meets its contract.
 use borrow.Author.Needs.{needs}
 use mathlib.Core.Path.{sym, _∙_}
 use Rattle.scenarios.proofs.GatherLaws.{admit-bad, admit-end, admit-kept, admit-fail, admit-put, admit-full}

@@ -1,4 +1,4 @@
--- `scenarios::opening::no_meters` meets its contract. Assumes nothing.
+-- `scenarios::opening::no_meters` meets its contract.
 use borrow.Author.Needs.{needs}
 use Rattle.scenarios.proofs.GatherLaws.{none-is}
 use Rattle.scenarios.proofs.opening.no_meters.Statement.{statement}

@@ -1,4 +1,4 @@
--- `scenarios::opening::spare_meter` meets its contract. Assumes nothing.
+-- `scenarios::opening::spare_meter` meets its contract.
 use mathlib.Core.Path.{refl}
 use Rattle.scenarios.specs.Gather.{spare}
 use Rattle.scenarios.proofs.opening.spare_meter.Statement.{statement}

@@ -1,4 +1,4 @@
--- `search_call::entries::copy` meets its contract. Assumes nothing.
+-- `search_call::entries::copy` meets its contract.
 use mathlib.Core.Path.{_≡_, refl, ap, _∙_}
 use Prim.Native.Nat.{_+_, _-_, _≤_}
 use native.Mathlib.Omega.{arith}

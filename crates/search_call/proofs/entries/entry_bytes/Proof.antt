@@ -1,4 +1,4 @@
--- `search_call::entries::entry_bytes` meets its contract. Assumes nothing.
+-- `search_call::entries::entry_bytes` meets its contract.
 use Rattle.search_call.proofs.SearchLaws.{entry-is}
 use borrow.Author.Needs.{needs}
 use Rattle.search_call.proofs.entries.entry_bytes.Statement.{statement}

@@ -1,4 +1,4 @@
--- `search_call::entries::put_entries` meets its contract. Assumes nothing.
+-- `search_call::entries::put_entries` meets its contract.
 use mathlib.Core.Path.{_≡_, refl, sym, ap, subst, _∙_}
 use mathlib.Core.List.{_++_}
 use Prim.Native.Nat.{ℕ, _+_, _*_, _-_, _≤_}
@@ -8,7 +8,7 @@ use lib.Seq.{length-paste}
 use borrow.Author.Needs.{needs}
 use Rattle.scenarios.specs.Opening.{mostMeters}
 use Rattle.laws.proofs.Sweep.{length-mapped}
-use Rattle.laws.specs.Rows.{rows}
+use Rattle.laws.specs.Words.{each}
 use Rattle.laws.proofs.Rows.{Rows, rows-begin, rows-more}
 use Rattle.search_call.specs.Searches.{entryBytes}
 use Rattle.search_call.proofs.SearchLaws.{length-entry}
@@ -75,7 +75,7 @@ returns c =
     let at = c .before .loop in
     let a = c .before .before .before .args in
     let e : at .i ≡ a .count = omega arith in
-    at .inv .5 .is ∙ ap (λ (n : ℕ). rows entryBytes (take n (a .t1)) ++ drop (16 * n) (a .lent .now)) e
+    at .inv .5 .is ∙ ap (λ (n : ℕ). each (take n (a .t1)) entryBytes ++ drop (16 * n) (a .lent .now)) e
 
 pub put-entries-spec : {M : Type 1} → statement M
 put-entries-spec =

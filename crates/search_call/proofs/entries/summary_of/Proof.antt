@@ -1,9 +1,9 @@
--- `search_call::entries::summary_of` meets its contract. Assumes nothing.
+-- `search_call::entries::summary_of` meets its contract.
 use mathlib.Core.Path.{ap, _∙_}
-use mathlib.Core.List.{List, _++_}
+use mathlib.Core.List.{List, [], _++_, append-nil}
 use Prim.Native.Nat.{ℕ}
 use Rattle.values.specs.Values.{little}
-use Rattle.search_call.proofs.SearchLaws.{three-blocks}
+use Rattle.laws.proofs.Lists.{blocks-before}
 use borrow.Author.Needs.{needs}
 use native.Mathlib.Omega.{arith}
 use Rattle.search_call.proofs.entries.summary_of.Statement.{statement}
@@ -66,7 +66,8 @@ returns c =
     let p = f .before in
     let n = p .before in
     let a = n .before .args in
-    three-blocks (n .le4 .result) (p .le42 .result) (c .le43 .result) (search needs) (search needs) (search needs)
+    blocks-before (n .le4 .result) (p .le42 .result) (c .le43 .result) (search needs) (search needs) (search needs) []
+    ∙ append-nil (n .le4 .result ++ p .le42 .result ++ c .le43 .result)
     ∙ ap (λ (x : List ℕ). x ++ p .le42 .result ++ c .le43 .result) (n .le4 .ensures)
     ∙ ap (λ (x : List ℕ). little 4 (a .count) ++ x ++ c .le43 .result) (p .le42 .ensures)
     ∙ ap (λ (x : List ℕ). little 4 (a .count) ++ little 4 (a .probes) ++ x) (c .le43 .ensures ∙ ap (little 4) (f .bit .ensures .0))

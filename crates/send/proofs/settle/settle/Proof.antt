@@ -1,5 +1,4 @@
 use mathlib.Core.Path.{_≡_, refl, sym, ap, _∙_, subst}
-use mathlib.Core.List.{List}
 use mathlib.Core.Logic.{⊎-elim}
 use Prim.Native.Nat.{ℕ, _+_, _≤_, _<_, _-_}
 use native.Mathlib.Omega.{arith}
@@ -15,30 +14,32 @@ use Rattle.frame.proofs.Waiting.{waiting-short}
 use Rattle.meter.specs.PlainMeter.{PlainMeter}
 use Rattle.hear.specs.Hear.{Heard, hear}
 use Rattle.hear.proofs.ConcernLaws.{unconcerned}
+use Rattle.bus.specs.Calls.{refused}
 use Rattle.seconds.specs.Seconds.{elapsedOf}
 use Rattle.replies.proofs.JoiningLaws.{small-all}
 use Rattle.send.proofs.HandleLaws.{handled-all, handled-full, handled-fits}
 use Rattle.send.proofs.SendLaws.{bytes-drop}
 use Rattle.send.proofs.SettleLaws.{Left, left-none, left-more, left-full, left-waits, left-drops, parsed-complete, parsed-incomplete, parsed-invalid, used-within}
 use Rattle.send.proofs.SweepLaws.{Swept, Sweeping, sweeping-none, sweeping-few, sweeping-more, sweeping-past, sweeping-all}
+use Rattle.send.proofs.UndoLaws.{Undone, undone-none, undone-swept, undone-queued}
 use Rattle.send.proofs.settle.settle.Statement.{statement}
 use Rattle.send.proofs.settle.settle.Tie as tie
 
 abbrev Inv-loop2 : tie.InvT-loop2
-Inv-loop2 segment bytes clock t₀ pos frame len used «data» elapsed end joined₀ kept₀ i₀ t joined kept i =
+Inv-loop2 segment bytes clock meters t₀ pos frame len used «data» elapsed end joined₀ kept₀ i₀ t joined kept i =
     (i ≤ end) × (end ≤ 64) × (length (t₀ .meters) ≡ 64) × (length (t .meters) ≡ 64) × (length (t .input) ≡ 260) × (length (t .queue) ≡ 4096) × Sweeping (hear (t₀ .baud) (telegramOf frame «data») elapsed clock) t₀ i t kept joined
 
 abbrev μ-loop2 : tie.MeasureT-loop2
-μ-loop2 segment bytes clock t₀ pos frame len used «data» elapsed end joined₀ kept₀ i₀ t joined kept i = end - i
+μ-loop2 segment bytes clock meters t₀ pos frame len used «data» elapsed end joined₀ kept₀ i₀ t joined kept i = end - i
 
 abbrev Inv-loop : tie.InvT-loop
-Inv-loop segment bytes clock t₀ pos₀ t pos = (pos ≤ length bytes) × (length (t .meters) ≡ 64) × (length (t .input) ≡ 260) × (length (t .queue) ≡ 4096) × Left clock bytes segment pos t
+Inv-loop segment bytes clock meters t₀ pos₀ t pos = (pos ≤ length bytes) × (length (t .meters) ≡ 64) × (length (t .input) ≡ 260) × (length (t .queue) ≡ 4096) × Left clock bytes segment pos t × Undone segment t
 
 abbrev μ-loop : tie.MeasureT-loop
-μ-loop segment bytes clock t₀ pos₀ t pos = length bytes - pos
+μ-loop segment bytes clock meters t₀ pos₀ t pos = length bytes - pos
 
 loop-holds : tie.Need-loop-holds Inv-loop2 μ-loop2 Inv-loop μ-loop
-loop-holds c = (omega arith, search (needs, length-mapped), search needs, search needs, left-none)
+loop-holds c = (omega arith, search (needs, length-mapped), search needs, search needs, left-none, undone-none)
 
 sub-rest : tie.Need-sub-rest Inv-loop2 μ-loop2 Inv-loop μ-loop
 sub-rest c = omega arith
@@ -62,12 +63,12 @@ data-of-requires c κs = tt
 whole : (c : tie.After-data-of Inv-loop2 μ-loop2 Inv-loop μ-loop)
     → let f = c .before .before in
     let at = f .before .before .before .before in
-    parse (drop (at .loop .pos) (at .before .before .args .bytes .now)) ≡ complete (telegramOf (f .frame .given .0 .0) (c .data-of .result .now)) (f .frame .given .0 .1 .1 .0)
+    parse (drop (at .loop .pos) (at .before .before .before .args .bytes .now)) ≡ complete (telegramOf (f .frame .given .0 .0) (c .data-of .result .now)) (f .frame .given .0 .1 .1 .0)
 whole c =
     let f = c .before .before in
     let p = f .before .before in
     let at = p .before .before in
-    parsed-complete (take-rest (at .before .before .args .bytes .now) (at .loop .pos)) (p .parse .ensures .tells) (f .frame .given .1) (c .data-of .ensures)
+    parsed-complete (take-rest (at .before .before .before .args .bytes .now) (at .loop .pos)) (p .parse .ensures .tells) (f .frame .given .1) (c .data-of .ensures)
 
 elapsed-requires : tie.Need-elapsed-requires Inv-loop2 μ-loop2 Inv-loop μ-loop
 elapsed-requires c κs = tt
@@ -132,7 +133,7 @@ loop2-again c =
     let at = c .before .before .before in
     let i = at .loop2 .inv in
     let e = at .before .before .before in
-    let a = e .before .before .before .before .before .before .before .before .before .args in
+    let a = e .before .before .before .before .before .before .before .before .before .before .args in
     let g : ℕ → PlainMeter → Heard = λ b. hear b (telegramOf (e .before .before .before .frame .given .0 .0) (e .before .data-of .result .now)) (e .elapsed .result) (a .clock) in (
       omega arith,
       i .1,
@@ -150,14 +151,14 @@ loop2-again c =
 swept : (c : tie.After-loop2 Inv-loop2 μ-loop2 Inv-loop μ-loop)
     → let d = c .before .before .before .before .before in
     let at = d .before .before .before .before .before .before in
-    let a = at .before .before .args in
+    let a = at .before .before .before .args in
     let end = c .before .loop2 in
     Swept (hear (at .loop .t .baud) (telegramOf (d .before .before .frame .given .0 .0) (d .data-of .result .now)) (elapsedOf (a .clock .now) (at .loop .t .origin)) (a .clock)) (at .loop .t) (end .t) (end .kept) (end .joined)
 swept c =
     let e = c .before .before .before .before in
     let d = e .before in
     let at = d .before .before .before .before .before .before in
-    let a = at .before .before .args in
+    let a = at .before .before .before .args in
     let end = c .before .loop2 in
     subst (λ x. Swept (hear (at .loop .t .baud) (telegramOf (d .before .before .frame .given .0 .0) (d .data-of .result .now)) x (a .clock)) (at .loop .t) (end .t) (end .kept) (end .joined)) (e .elapsed .ensures)
     (sweeping-all (end .inv .6) (omega arith))
@@ -183,8 +184,9 @@ returns c =
     let at = f .before .before .before .before in
     let end = l .before .loop2 in
     let tel = telegramOf (f .frame .given .0 .0) (d .data-of .result .now) in
-    left-full (at .loop .inv .4) tel (f .frame .given .0 .1 .1 .0) (whole d)
-    (handled-full tel (at .before .before .args .clock) (at .loop .t) (end .t) (end .kept) (end .joined) (swept l) (end .inv .5)
+    ap (refused 15) (undone-swept (at .loop .inv .5) (end .t) (end .inv .6 .same) .back)
+    ∙ left-full (at .loop .inv .4) tel (f .frame .given .0 .1 .1 .0) (whole d)
+    (handled-full tel (at .before .before .before .args .clock) (at .loop .t) (end .t) (end .kept) (end .joined) (swept l) (end .inv .5)
     (sym (not-true _ (c .before .before .before .if2 .taken)) ∙ t .to-all .ensures (d .data-of .result .now)) _ _ (c .before .before .least2 .ensures) (c .before .length-of .ensures) (c .if3 .taken))
 
 put-requires : tie.Need-put-requires Inv-loop2 μ-loop2 Inv-loop μ-loop
@@ -199,11 +201,11 @@ uses : (c : tie.After-data-of Inv-loop2 μ-loop2 Inv-loop μ-loop)
     → let f = c .before .before in
     let at = f .before .before .before .before in
     let used = f .frame .given .0 .1 .1 .0 in
-    (0 < used) × (at .loop .pos + used ≤ length (at .before .before .args .bytes .now))
+    (0 < used) × (at .loop .pos + used ≤ length (at .before .before .before .args .bytes .now))
 uses c =
     let f = c .before .before in
     let at = f .before .before .before .before in
-    let bytes = at .before .before .args .bytes .now in
+    let bytes = at .before .before .before .args .bytes .now in
     let u = used-within (drop (at .loop .pos) bytes) (telegramOf (f .frame .given .0 .0) (c .data-of .result .now)) (f .frame .given .0 .1 .1 .0) (whole c) in
     (u .0, omega (arith, u .1, length-drop (at .loop .pos) bytes))
 
@@ -224,9 +226,10 @@ loop-again c =
     let f = d .before .before in
     let at = f .before .before .before .before in
     let u = uses d in
-    let k = at .before .before .args .clock in
+    let k = at .before .before .before .args .clock in
     let tel = telegramOf (f .frame .given .0 .0) (d .data-of .result .now) in
     let end = l .before .loop2 in
+    let u₁ = undone-swept (at .loop .inv .5) (end .t) (end .inv .6 .same) in
     let said = c .before .to-all .ensures (d .data-of .result .now) in (
       omega (arith, u .0, u .1),
       ⊎-elim (λ w. ap (λ x. length (x .meters)) (w .6) ∙ end .inv .3) (λ w. ap (λ x. length (x .meters)) (w .1) ∙ end .inv .3) (c .if2 .came),
@@ -242,6 +245,10 @@ loop-again c =
           (left-more (at .loop .inv .4) tel (f .frame .given .0 .1 .1 .0) (whole d)
           (handled-all tel k (at .loop .t) (end .t) (end .kept) (end .joined) (swept l) (end .inv .5) (sym (not-false _ (w .0 .left)) ∙ said))))
           (c .if2 .came),
+      ⊎-elim
+          (λ w. rw (w .6) (undone-queued u₁ _ _ (w .5 .last .0) _ (w .1 .ensures) (omega (arith, w .3 .left)) (end .inv .5) (w .5 .ensures .1) (ap (λ (m : ℕ). take (w .1 .result + m) (w .5 .last .0)) (w .2 .ensures) ∙ w .5 .ensures .0)))
+          (λ w. rw (w .1) u₁)
+          (c .if2 .came),
     )
 
 enum-told : tie.Need-enum-told Inv-loop2 μ-loop2 Inv-loop μ-loop
@@ -250,17 +257,17 @@ enum-told c = search needs
 -- what is left is an incomplete telegram
 part : (c : tie.After-enum-told Inv-loop2 μ-loop2 Inv-loop μ-loop)
     → let at = c .before .before .before .before in
-    parse (drop (at .loop .pos) (at .before .before .args .bytes .now)) ≡ incomplete
+    parse (drop (at .loop .pos) (at .before .before .before .args .bytes .now)) ≡ incomplete
 part c =
     let p = c .before .before in
     let at = p .before .before in
-    parsed-incomplete (take-rest (at .before .before .args .bytes .now) (at .loop .pos)) (p .parse .ensures .tells) (c .enum-told .given .1)
+    parsed-incomplete (take-rest (at .before .before .before .args .bytes .now) (at .loop .pos)) (p .parse .ensures .tells) (c .enum-told .given .1)
 
 keep-requires : tie.Need-keep-requires Inv-loop2 μ-loop2 Inv-loop μ-loop
 keep-requires c κs =
     let at = c .before .before .before .before .before in
-    let bytes = at .before .before .args .bytes .now in
-    let small = small-all bytes (λ i. at .before .shared-slice-known .given i .fits) in
+    let bytes = at .before .before .before .args .bytes .now in
+    let small = small-all bytes (λ i. at .before .before .shared-slice-known .given i .fits) in
     let s = waiting-short (drop (at .loop .pos) bytes) (bytes-drop (at .loop .pos) bytes small) (part (c .before)) in
     (omega (arith, s, ap length (take-rest bytes (at .loop .pos))), at .loop .inv .2)
 
@@ -268,7 +275,7 @@ returns-2 : tie.Need-returns-2 Inv-loop2 μ-loop2 Inv-loop μ-loop
 returns-2 c =
     let e = c .before .before in
     let at = e .before .before .before .before in
-    let bytes = at .before .before .args .bytes .now in
+    let bytes = at .before .before .before .args .bytes .now in
     let r = take-rest bytes (at .loop .pos) in
     let new = c .keep .last .0 in
     left-waits (at .loop .inv .4) (at .loop .inv .3) new _ (part e) (ap length r) (ap (λ x. take (length x) new) (sym r) ∙ c .keep .ensures ∙ r)
@@ -280,7 +287,7 @@ returns-3 : tie.Need-returns-3 Inv-loop2 μ-loop2 Inv-loop μ-loop
 returns-3 c =
     let p = c .before .before in
     let at = p .before .before in
-    left-drops (at .loop .inv .4) (at .loop .inv .3) (whyOf (c .enum-told2 .given .0 .0)) (parsed-invalid (take-rest (at .before .before .args .bytes .now) (at .loop .pos)) (p .parse .ensures .tells) (c .enum-told2 .given .1))
+    left-drops (at .loop .inv .4) (at .loop .inv .3) (whyOf (c .enum-told2 .given .0 .0)) (parsed-invalid (take-rest (at .before .before .before .args .bytes .now) (at .loop .pos)) (p .parse .ensures .tells) (c .enum-told2 .given .1))
 
 pub settle-spec : {M : Type 1} → statement M
 settle-spec =

@@ -1,7 +1,7 @@
 use mathlib.Core.Path.{sym, _∙_}
 use Rattle.meter.specs.Meter.{hears}
-use Rattle.meter.proofs.hearing.hears.Statement.{statement}
-use Rattle.meter.proofs.hearing.hears.Tie as tie
+use Rattle.meter.proofs.changes.hears.Statement.{statement}
+use Rattle.meter.proofs.changes.hears.Tie as tie
 
 is-flaky-requires : tie.Need-is-flaky-requires
 is-flaky-requires c κs = tt

@@ -1,4 +1,4 @@
-// Whether a telegram is heard, and a meter with some of its parts changed.
+// A meter with some of its parts changed, and whether it hears.
 ghost use mathlib.Core.Path.{_≡_};
 ghost use Rattle.meter.specs.Meter.{flaky, hears, put, reset, withPrimary, withBaud, withSelected, withHearsNext};
 ghost use Rattle.meter.specs.View.{plainMeter};

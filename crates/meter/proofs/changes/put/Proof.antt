@@ -1,7 +1,7 @@
 use mathlib.Core.Path.{sym, _∙_}
 use Rattle.meter.specs.Meter.{put}
-use Rattle.meter.proofs.hearing.put.Statement.{statement}
-use Rattle.meter.proofs.hearing.put.Tie as tie
+use Rattle.meter.proofs.changes.put.Statement.{statement}
+use Rattle.meter.proofs.changes.put.Tie as tie
 
 is-flaky-requires : tie.Need-is-flaky-requires
 is-flaky-requires c κs = tt
