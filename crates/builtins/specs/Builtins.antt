@@ -17,17 +17,17 @@ ABB = 0x41 ∷ 0x42 ∷ 0x42 ∷ []
 abbrev ELS : List ℕ
 ELS = 0x45 ∷ 0x4C ∷ 0x53 ∷ []
 
-abbrev KAM : List ℕ
+abbrev pub KAM : List ℕ
 KAM = 0x4B ∷ 0x41 ∷ 0x4D ∷ []
 
-abbrev SEN : List ℕ
+abbrev pub SEN : List ℕ
 SEN = 0x53 ∷ 0x45 ∷ 0x4E ∷ []
 
 abbrev ZRI : List ℕ
 ZRI = 0x5A ∷ 0x52 ∷ 0x49 ∷ []
 
 -- primary, version, own baud (0: the bus's), id, manufacturer, medium, fault
-abbrev meter : ℕ → ℕ → ℕ → ℕ → List ℕ → Medium → FaultKey → Listed
+abbrev pub meter : ℕ → ℕ → ℕ → ℕ → List ℕ → Medium → FaultKey → Listed
 meter primary version baud id manufacturer medium fault =
     record { primary = primary; version = version; baud = baud; id = idText id; manufacturer = manufacturer; medium = medium .key; fault = fault .key }
 

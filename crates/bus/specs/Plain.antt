@@ -1,9 +1,8 @@
 -- The plain segment (01, "The plain segment").
-use mathlib.Core.Bool.{false}
 use mathlib.Core.List.{List, []}
 use Prim.Native.Nat.{ℕ}
-use lib.IntN.{pos}
-use lib.Ieee.{Float, fin}
+use lib.Ieee.{Float}
+use Rattle.seconds.specs.Seconds.{zeroSeconds}
 use Rattle.meter.specs.PlainMeter.{PlainMeter}
 
 -- "It holds bus baud, origin, waiting input, queue and the meters in list order"
@@ -16,7 +15,7 @@ pub record Plain : Type 0 where
 
 -- "a segment of no meters, 2400 Bd, origin 0": what a refused first opening gives
 unfoldable pub blank : Plain
-blank = record { baud = 2400; origin = fin false 0 (pos 0); input = []; queue = []; meters = [] }
+blank = record { baud = 2400; origin = zeroSeconds; input = []; queue = []; meters = [] }
 
 -- with other waiting input, and with another queue
 abbrev pub withInput : List ℕ → Plain → Plain

@@ -1,7 +1,7 @@
 // The clock that a call is given.
 ghost use mathlib.Core.Path.{_≡_};
-ghost use Rattle.laws.specs.Words.{within};
 ghost use Rattle.clock.specs.Fields.{goodClock};
+use laws::is_within;
 
 // Seconds, and the date and time of day that meters write.
 pub struct Clock {
@@ -11,16 +11,6 @@ pub struct Clock {
     pub day: u32,
     pub hour: u32,
     pub minute: u32,
-}
-
-// Both ends are within.
-fn is_within(low: u32, high: u32, x: u32) -> bool
-    ensures { λ r. ⌜ r ≡ within low high x ⌝ }
-{
-    if x < low {
-        return false;
-    }
-    x <= high
 }
 
 // A clock with every field in range: year 1970..9999, month 1..12, day 1..31, hour 0..23, minute 0..59.

@@ -1,12 +1,19 @@
-// The lesser of two numbers, and a test as a number.
+// The lesser of two numbers, a test of a range, and a test as a number.
 ghost use mathlib.Core.Path.{_≡_};
 ghost use Prim.Native.Nat.{min, _≤_};
-ghost use Rattle.laws.specs.Words.{bitIf};
+ghost use Rattle.laws.specs.Words.{bitIf, within};
 
 pub fn least(a: usize, b: usize) -> usize
     ensures { λ r. ⌜ r ≡ min a b ⌝ }
 {
     if a < b { a } else { b }
+}
+
+// Both ends are within.
+pub fn is_within(low: u32, high: u32, x: u32) -> bool
+    ensures { λ r. ⌜ r ≡ within low high x ⌝ }
+{
+    (low <= x) & (x <= high)
 }
 
 // 1 for yes, 0 for no.

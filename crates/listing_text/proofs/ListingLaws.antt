@@ -8,6 +8,7 @@ use lib.Ieee.{Float}
 use lib.ListN.{length, take, drop, length-replicate}
 use lib.Seq.{take-at, length-take-le}
 use borrow.Author.Tests.{eq-eqb, ne-eqb}
+use Rattle.search.specs.Site.{site, october}
 use Rattle.clock.specs.declared.Clock.{Clock}
 use Rattle.scenarios.specs.Opening.{OpeningGives, openList, capacity}
 use Rattle.bus.specs.Plain.{Plain}
@@ -19,7 +20,7 @@ use Rattle.search.specs.declared.Core.{Core}
 use Rattle.search.specs.View.{coreGives, CoreFinds}
 use Rattle.search.specs.SearchCall.{Searched, searchCall}
 use Rattle.report_text.specs.Text.{reportOf, refusalOf, Prints}
-use Rattle.listing_text.specs.Listing.{listingClock, lentRecords, listIn, listedSegment, listedSearch, listingText, Lists}
+use Rattle.listing_text.specs.Listing.{lentRecords, listIn, listedSearch, listingText, Lists}
 
 pub lent-count : length lentRecords ≡ capacity
 unfolding lentRecords
@@ -60,7 +61,7 @@ module _ {input lent after : List ℕ} {r : ℕ} where
 
   -- f is a search of the segment q
   pub lists-report : (m i n : ℕ) (q : Segment) (k : Clock) (f : Core) → OpenedAs input m i → n ≡ m → n ≡ 0
-      → plainOf q ≡ listedSegment (listIn input) → k ≡ listingClock → CoreFinds q k 10000 capacity f → length (f .entries) ≡ capacity
+      → plainOf q ≡ site (listIn input) → k ≡ october → CoreFinds q k 10000 capacity f → length (f .entries) ≡ capacity
       → Prints lent (reportOf (take (f .count) (f .entries)) (f .probes)) r after → Lists input lent r after
   unfolding coreGives listedSearch capacity
   lists-report m i n q k f o e z a b c d p =

@@ -3,6 +3,7 @@ use mathlib.Core.Path.{refl}
 use mathlib.Core.List.{List, [], _∷_}
 use Prim.Native.Nat.{ℕ}
 use lib.Ieee.{round, sub}
+use Rattle.search.specs.Site.{site, october}
 use Rattle.frame.specs.Frame.{sum, encode, parseShort, parseBody, parseLong, parse}
 use Rattle.values.specs.Values.{little, bcd}
 use Rattle.identity.specs.Identity.{manufacturerCode, idBytes, nibbles, inBase}
@@ -29,11 +30,11 @@ use Rattle.clock.specs.Fields.{goodClock}
 use Rattle.walk.specs.Walk.{maskDigits, mask, reading, ask, probe, good, idOf, entryOf, read, ten, walk, wholeWalk}
 use Rattle.search.specs.SearchCall.{searchCall}
 use Rattle.report_text.specs.Text.{inDecimal, numberText, line, firstLine, reportOf, refusalOf}
-use Rattle.listing_text.specs.Listing.{listedSegment, listingClock, lentRecords, listIn, listedSearch, listingText, ListingGives}
+use Rattle.listing_text.specs.Listing.{lentRecords, listIn, listedSearch, listingText, ListingGives}
 
 -- to unfold this is to unfold every definition that a listing computes with
 everything : ℕ
-unfolding sum encode parseShort parseBody parseLong parse little bcd typeG typeF manufacturerCode idBytes nibbles inBase whole notBelow0 elapsedOf round sub hears put alike matches asked fixedData head clockF heatFirst heatSecond electricity water userData response damaged readout rates target nke request select commanded listens hear media faults readTexts readRecords goodId goodManufacturer check capacity otherThanBus ownBaud seedOf fresh openRecords openList blank joined heardBy handled steps settled afterOpening goodClock send maskDigits mask reading ask probe good idOf entryOf read ten walk wholeWalk searchCall inDecimal numberText line firstLine reportOf refusalOf listedSegment listingClock lentRecords listIn listedSearch listingText
+unfolding sum encode parseShort parseBody parseLong parse little bcd typeG typeF manufacturerCode idBytes nibbles inBase whole notBelow0 elapsedOf round sub hears put alike matches asked fixedData head clockF heatFirst heatSecond electricity water userData response damaged readout rates target nke request select commanded listens hear media faults readTexts readRecords goodId goodManufacturer check capacity otherThanBus ownBaud seedOf fresh openRecords openList blank joined heardBy handled steps settled afterOpening goodClock send maskDigits mask reading ask probe good idOf entryOf read ten walk wholeWalk searchCall inDecimal numberText line firstLine reportOf refusalOf site october lentRecords listIn listedSearch listingText
 everything = 0
 
 -- water meters 12345678 and 12345699

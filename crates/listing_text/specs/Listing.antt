@@ -7,6 +7,7 @@ use lib.IntN.{pos}
 use lib.Ieee.{fin}
 use lib.Dec.{eqb}
 use lib.ListN.{take, replicate}
+use Rattle.search.specs.Site.{site, october}
 use Rattle.laws.specs.Words.{if_then_else_}
 use Rattle.clock.specs.declared.Clock.{Clock}
 use Rattle.scenarios.specs.Opening.{OpeningGives, openList, capacity}
@@ -17,21 +18,13 @@ use Rattle.search.specs.declared.Kind.the-variants.{One}
 use Rattle.search.specs.SearchCall.{Searched, searchCall}
 use Rattle.report_text.specs.Text.{reportOf, refusalOf, Prints}
 
--- "opens at 2400 without the flag, origin .. 0": the first opening of a segment
-unfoldable pub listedSegment : List ℕ → Plain
-listedSegment list = afterOpening list 2400 false (fin false 0 (pos 0)) blank
-
--- "now 0, date 2026-10-01 00:00"
-unfoldable pub listingClock : Clock
-listingClock = record { now = fin false 0 (pos 0); year = 2026; month = 10; day = 1; hour = 0; minute = 0 }
-
 -- The records lent to the search, one for each meter that a list can have. What stands in them is not written.
 unfoldable pub lentRecords : List EntryRecord
 lentRecords = replicate capacity (record { kind = One; digits = replicate 8 0; count = 0 })
 
 -- "allowance 10,000"
 unfoldable pub listedSearch : List ℕ → Searched
-listedSearch list = searchCall listingClock 10000 lentRecords (listedSegment list)
+listedSearch list = searchCall october 10000 lentRecords (site list)
 
 -- the text by the opening's number: "A refused list prints `refused` and the number."
 unfoldable pub listingText : ℕ → Searched → List ℕ

@@ -1,6 +1,7 @@
 // What the listing program writes for what it reads.
 ghost use mathlib.Core.Path.{_≡_};
-ghost use Rattle.listing_text.specs.Listing.{listingClock, listIn, Lists};
+ghost use Rattle.search.specs.Site.{october};
+ghost use Rattle.listing_text.specs.Listing.{listIn, Lists};
 ghost use Rattle.bus.specs.Plain.{blank};
 ghost use Rattle.bus.specs.View.{Opens};
 ghost use mathlib.Core.Bool.{false};
@@ -18,7 +19,7 @@ use report_text::Written;
 const INPUT: usize = 65536;
 
 fn clock() -> Clock
-    ensures { λ r. ⌜ r ≡ listingClock ⌝ }
+    ensures { λ r. ⌜ r ≡ october ⌝ }
 {
     Clock {
         now: 0.0,

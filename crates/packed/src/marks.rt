@@ -4,18 +4,11 @@
 ghost use mathlib.Core.Path.{_≡_};
 ghost use Prim.Native.Nat.{ℕ, _≤_};
 ghost use lib.ListN.{length};
-ghost use Rattle.laws.specs.Words.{within};
 ghost use Rattle.scenarios.specs.Opening.{capacity};
 ghost use Rattle.packed.specs.Marks.{yesOf, hearsOf, marked, masked, acked, readoutsIn, readMark, readKey, readBy, sweptBy, foldBy};
 use laws::bit;
+use laws::is_within;
 use scenarios::METERS;
-
-// A mask's ids are those from its lowest to its highest.
-fn within(key: u32, low: u32, high: u32) -> bool
-    ensures { λ r. ⌜ r ≡ within low high key ⌝ }
-{
-    (low <= key) & (key <= high)
-}
 
 // 1 where the meter answers a telegram; put is 1 where the telegram is put to it.
 fn yes_of(mark: u32, put: u32) -> u32
@@ -45,7 +38,7 @@ fn mask_mark(mark: u32, put: u32) -> u32
     mark / 16 * 16 + clear % 2 * 8 + hears * 4 + fresh % 2 * 2 + yes
 }
 
-// The mask from low to high is sent: how many acknowledge it.
+// The mask of the ids from low to high is sent: how many acknowledge it.
 // This is 01's probe of the segment that keys and marks stand for (search, proofs/PackedProbe.antt, `probe-packed`).
 pub(crate) fn send_mask(keys: &[u32; METERS], marks: &mut [u32; METERS], low: u32, high: u32) -> u32
     requires { ⌜ (length (now keys) ≡ capacity) × (length (now marks) ≡ capacity) ⌝ }
@@ -56,7 +49,7 @@ pub(crate) fn send_mask(keys: &[u32; METERS], marks: &mut [u32; METERS], low: u3
     let mut i: usize = 0;
     while i < METERS {
         let k = keys[i];
-        let put = bit(within(k, low, high));
+        let put = bit(is_within(low, high, k));
         let t = mask_mark(marks[i], put);
         marks[i] = t;
         acks = acks + t % 2;

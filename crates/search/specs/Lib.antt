@@ -4,3 +4,4 @@ pub mod Answer
 pub mod Demand
 pub mod Packing
 pub mod View
+pub mod Site

@@ -25,12 +25,16 @@ last32 = 4294967295
 abbrev pub last64 : ℕ
 last64 = 18446744073709551615
 
+-- 0 s
+abbrev pub zeroSeconds : Float
+zeroSeconds = fin false 0 (pos 0)
+
 -- Not below 0: +0 stands for what is negative, -0 with it, and for `nan`.
 unfoldable pub notBelow0 : Float → Float
-notBelow0 nan = fin false 0 (pos 0)
-notBelow0 (inf true) = fin false 0 (pos 0)
+notBelow0 nan = zeroSeconds
+notBelow0 (inf true) = zeroSeconds
 notBelow0 (inf false) = inf false
-notBelow0 (fin true m e) = fin false 0 (pos 0)
+notBelow0 (fin true m e) = zeroSeconds
 notBelow0 (fin false m e) = fin false m e
 
 -- now - origin, rounded once, and not below 0

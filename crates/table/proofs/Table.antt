@@ -6,12 +6,13 @@ use Prim.Native.Nat.{ℕ, _+_, _*_}
 use native.Mathlib.Omega.{arith}
 use lib.Ieee.{round, sub}
 use lib.ListN.{replicate}
+use Rattle.search.specs.Site.{site, october}
 use Rattle.meter_list.specs.Written.{writeTexts, writeRest, writeRecords, writeList}
 use Rattle.frame.specs.Frame.{short, encode, sum, parse, parseShort, parseLong, parseBody}
 use Rattle.values.specs.Values.{bcd, little}
 use Rattle.identity.specs.Identity.{manufacturerCode, idBytes, nibbles, inBase}
 use Rattle.dates.specs.Dates.{typeG, typeF}
-use Rattle.seconds.specs.Seconds.{whole, elapsedOf, notBelow0}
+use Rattle.seconds.specs.Seconds.{whole, elapsedOf, notBelow0, zeroSeconds}
 use Rattle.meter.specs.Meter.{hears, put}
 use Rattle.asking.specs.Asking.{asked}
 use Rattle.matching.specs.Matching.{alike, matches}
@@ -40,43 +41,48 @@ use Rattle.search.specs.Call.{afterCall, afterCalls}
 use Rattle.search.specs.Demand.{Demanded}
 use Rattle.walk.proofs.Bound.{D-none}
 use Rattle.search.proofs.Demanded.{demanded}
-use Rattle.table.specs.Table.{zeroSeconds, october, opened, walked, outcome, busyAt11, noMeter, oneMeter, twice, Table}
+use Rattle.table.specs.Table.{walked, outcome, busyAt11, noMeter, oneMeter, twice, Table}
 
 -- to unfold this is to unfold every definition that a search computes with
 everything : ℕ
-unfolding encode sum parse parseShort parseLong parseBody manufacturerCode bcd typeG typeF idBytes nibbles inBase little whole elapsedOf sub round notBelow0 hears put alike matches asked fixedData head clockF heatFirst heatSecond electricity water userData response damaged readout rates target nke request select commanded listens hear media faults readTexts readRecords goodId goodManufacturer check capacity otherThanBus ownBaud seedOf fresh openRecords openList blank joined heardBy handled steps settled afterOpening goodClock send ten walk wholeWalk maskDigits mask reading ask probe good idOf entryOf read
+unfolding encode sum parse parseShort parseLong parseBody manufacturerCode bcd typeG typeF idBytes nibbles inBase little whole elapsedOf sub round notBelow0 hears put alike matches asked fixedData head clockF heatFirst heatSecond electricity water userData response damaged readout rates target nke request select commanded listens hear media faults readTexts readRecords goodId goodManufacturer check capacity otherThanBus ownBaud seedOf fresh openRecords openList blank joined heardBy handled steps settled afterOpening goodClock send ten walk wholeWalk maskDigits mask reading ask probe good idOf entryOf read site october
 everything = 0
+
+-- and this, what a list's records are written by
+written : ℕ
+unfolding idText writeList writeRecords writeRest writeTexts
+written = 0
 
 line-a : encode (mask []) ≡ 0x68 ∷ 0x0B ∷ 0x0B ∷ 0x68 ∷ 0x53 ∷ 0xFD ∷ 0x52 ∷ 0xFF ∷ 0xFF ∷ 0xFF ∷ 0xFF ∷ 0xFF ∷ 0xFF ∷ 0xFF ∷ 0xFF ∷ 0x9A ∷ 0x16 ∷ []
 unfolding everything
 line-a = refl
 
-line-e : (send (encode (short 0x5B 11)) october (opened busyAt11)) .segment .queue ≡ 0x68 ∷ 0x04 ∷ 0x04 ∷ 0x68 ∷ 0x08 ∷ 0x0B ∷ 0x70 ∷ 0x08 ∷ 0x8B ∷ 0x16 ∷ []
-unfolding everything busyAt11
+line-e : (send (encode (short 0x5B 11)) october (site busyAt11)) .segment .queue ≡ 0x68 ∷ 0x04 ∷ 0x04 ∷ 0x68 ∷ 0x08 ∷ 0x0B ∷ 0x70 ∷ 0x08 ∷ 0x8B ∷ 0x16 ∷ []
+unfolding everything written busyAt11
 line-e = refl
 
 line-j-opens : openList noMeter 2400 false ≡ opens []
-unfolding everything noMeter
+unfolding everything written noMeter
 line-j-opens = refl
 
 line-j-none : outcome (walked noMeter) ≡ ([], 1, false)
-unfolding everything noMeter
+unfolding everything written noMeter
 line-j-none = refl
 
 line-j-one : outcome (walked oneMeter) ≡ (one (6 ∷ 1 ∷ 0 ∷ 0 ∷ 0 ∷ 0 ∷ 0 ∷ 1 ∷ []) ∷ [], 1, false)
-unfolding everything oneMeter
+unfolding everything written oneMeter
 line-j-one = refl
 
 line-k : outcome (walked twice) ≡ (many (7 ∷ 7 ∷ 7 ∷ 7 ∷ 7 ∷ 7 ∷ 7 ∷ 7 ∷ []) 2 ∷ [], 81, false)
-unfolding everything twice
+unfolding everything written twice
 line-k = refl
 
 line-l : (walked ok10) .probes ≡ 201
-unfolding everything ok10 idText writeList writeRecords writeRest writeTexts
+unfolding everything written ok10
 line-l = refl
 
 not-spent : (walked ok10) .spent ≡ false
-unfolding everything ok10 idText writeList writeRecords writeRest writeTexts
+unfolding everything written ok10
 not-spent = refl
 
 -- ---- the price of ok10, by demand 3: its first and only search
@@ -84,12 +90,12 @@ not-spent = refl
 lent : List EntryRecord
 lent = replicate 64 (record { kind = One; digits = replicate 8 0; count = 0 })
 
-ok10-demanded : Demanded 10000 lent (opened ok10) (walked ok10) (searchCall october 10000 lent (opened ok10))
-unfolding everything ok10 idText writeList writeRecords writeRest writeTexts searchCall afterCall afterCalls lent
+ok10-demanded : Demanded 10000 lent (site ok10) (walked ok10) (searchCall october 10000 lent (site ok10))
+unfolding everything written ok10 searchCall afterCall afterCalls lent
 ok10-demanded = demanded ok10 2400 false zeroSeconds [] october 10000 lent refl
 
-line-l-price : 1 + 10 * D (atBusBaud (opened ok10)) ≡ 201
-unfolding everything ok10 idText writeList writeRecords writeRest writeTexts
+line-l-price : 1 + 10 * D (atBusBaud (site ok10)) ≡ 201
+unfolding everything written ok10
 line-l-price = omega (arith, line-l, ok10-demanded .steady (refl, (refl, (refl, (refl, (refl, (refl, (refl, (refl, (refl, (refl, tt)))))))))) .complete not-spent .probes)
 
 pub table : Table

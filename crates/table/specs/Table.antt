@@ -6,14 +6,17 @@ use Prim.Native.Nat.{ℕ, _+_, _*_, _≤_}
 use lib.IntN.{pos}
 use lib.Ieee.{Float, nan, fin, binary64, round}
 use lib.ListN.{length}
+use Rattle.rules.specs.Tables.{medium-heat, medium-water, fault-none, fault-busy}
+use Rattle.meter_list.specs.Written.{writeList}
+use Rattle.search.specs.Site.{site, october}
 use Rattle.frame.specs.Frame.{short, encode}
 use Rattle.values.specs.Values.{bcd}
 use Rattle.identity.specs.Identity.{manufacturerCode, idBytes}
 use Rattle.dates.specs.Dates.{typeG}
-use Rattle.seconds.specs.Seconds.{whole, last32, elapsedOf}
+use Rattle.seconds.specs.Seconds.{whole, last32, elapsedOf, zeroSeconds}
 use Rattle.clock.specs.declared.Clock.{Clock}
 use Rattle.fresh_meter.specs.Fresh.{seedOf}
-use Rattle.builtins.specs.Builtins.{ok10}
+use Rattle.builtins.specs.Builtins.{ok10, KAM, SEN, meter}
 use Rattle.scenarios.specs.Opening.{opens, openList}
 use Rattle.bus.specs.Plain.{Plain, blank}
 use Rattle.bus.specs.Calls.{afterOpening}
@@ -22,21 +25,9 @@ use Rattle.send.specs.Send.{send}
 use Rattle.walk.specs.Walk.{maskDigits, mask, Entry, one, many, Walked, wholeWalk}
 use Rattle.walk.specs.Entries.{atBusBaud, D}
 
--- 0 s
-abbrev pub zeroSeconds : Float
-zeroSeconds = fin false 0 (pos 0)
-
--- now 0, 2026-10-01 00:00
-abbrev pub october : Clock
-october = record { now = zeroSeconds; year = 2026; month = 10; day = 1; hour = 0; minute = 0 }
-
--- a list opened at 2400 without the flag, origin 0
-abbrev pub opened : List ℕ → Plain
-opened list = afterOpening list 2400 false zeroSeconds blank
-
 -- its search with an allowance of 10,000
 abbrev pub walked : List ℕ → Walked
-walked list = wholeWalk october 10000 (opened list)
+walked list = wholeWalk october 10000 (site list)
 
 -- entries, probes, spent or not
 abbrev pub outcome : Walked → List Entry × ℕ × Bool
@@ -44,31 +35,19 @@ outcome w = (w .entries, w .probes, w .spent)
 
 -- water SEN 11000011 at 11, fault busy
 unfoldable pub busyAt11 : List ℕ
-busyAt11 =
-    0x01 ∷ 0x00 ∷ 0x1F
-    ∷ 0x1E ∷ 0x0B ∷ 0x10 ∷ 0x00 ∷ 0x00 ∷ 0x00 ∷ 0x00 ∷ 0x08 ∷ 0x31 ∷ 0x31 ∷ 0x30 ∷ 0x30 ∷ 0x30 ∷ 0x30 ∷ 0x31 ∷ 0x31 ∷ 0x03 ∷ 0x53 ∷ 0x45 ∷ 0x4E ∷ 0x05 ∷ 0x77 ∷ 0x61 ∷ 0x74 ∷ 0x65 ∷ 0x72 ∷ 0x04 ∷ 0x62 ∷ 0x75 ∷ 0x73 ∷ 0x79
-    ∷ []
+busyAt11 = writeList (meter 11 0x10 0 11000011 SEN medium-water fault-busy ∷ [])
 
--- no meter
+-- "`01 00 00` is a list of no meters"
 unfoldable pub noMeter : List ℕ
-noMeter =
-    0x01 ∷ 0x00 ∷ 0x00
-    ∷ []
+noMeter = 0x01 ∷ 0x00 ∷ 0x00 ∷ []
 
 -- heat KAM 61000001 at 1, fault none
 unfoldable pub oneMeter : List ℕ
-oneMeter =
-    0x01 ∷ 0x00 ∷ 0x1E
-    ∷ 0x1D ∷ 0x01 ∷ 0x01 ∷ 0x00 ∷ 0x00 ∷ 0x00 ∷ 0x00 ∷ 0x08 ∷ 0x36 ∷ 0x31 ∷ 0x30 ∷ 0x30 ∷ 0x30 ∷ 0x30 ∷ 0x30 ∷ 0x31 ∷ 0x03 ∷ 0x4B ∷ 0x41 ∷ 0x4D ∷ 0x04 ∷ 0x68 ∷ 0x65 ∷ 0x61 ∷ 0x74 ∷ 0x04 ∷ 0x6E ∷ 0x6F ∷ 0x6E ∷ 0x65
-    ∷ []
+oneMeter = writeList (meter 1 0x01 0 61000001 KAM medium-heat fault-none ∷ [])
 
 -- water KAM 77777777 at 1, fault none; water SEN 77777777 at 2, fault none
 unfoldable pub twice : List ℕ
-twice =
-    0x01 ∷ 0x00 ∷ 0x3E
-    ∷ 0x1E ∷ 0x01 ∷ 0x01 ∷ 0x00 ∷ 0x00 ∷ 0x00 ∷ 0x00 ∷ 0x08 ∷ 0x37 ∷ 0x37 ∷ 0x37 ∷ 0x37 ∷ 0x37 ∷ 0x37 ∷ 0x37 ∷ 0x37 ∷ 0x03 ∷ 0x4B ∷ 0x41 ∷ 0x4D ∷ 0x05 ∷ 0x77 ∷ 0x61 ∷ 0x74 ∷ 0x65 ∷ 0x72 ∷ 0x04 ∷ 0x6E ∷ 0x6F ∷ 0x6E ∷ 0x65
-    ∷ 0x1E ∷ 0x02 ∷ 0x01 ∷ 0x00 ∷ 0x00 ∷ 0x00 ∷ 0x00 ∷ 0x08 ∷ 0x37 ∷ 0x37 ∷ 0x37 ∷ 0x37 ∷ 0x37 ∷ 0x37 ∷ 0x37 ∷ 0x37 ∷ 0x03 ∷ 0x53 ∷ 0x45 ∷ 0x4E ∷ 0x05 ∷ 0x77 ∷ 0x61 ∷ 0x74 ∷ 0x65 ∷ 0x72 ∷ 0x04 ∷ 0x6E ∷ 0x6F ∷ 0x6E ∷ 0x65
-    ∷ []
+twice = writeList (meter 1 0x01 0 77777777 KAM medium-water fault-none ∷ meter 2 0x01 0 77777777 SEN medium-water fault-none ∷ [])
 
 pub record Table : Type 0 where
   -- (a) wildcard probe
@@ -80,7 +59,7 @@ pub record Table : Type 0 where
   -- (d) 12345 in four BCD bytes
   pub d : bcd 4 12345 ≡ 0x45 ∷ 0x23 ∷ 0x01 ∷ 0x00 ∷ []
   -- (e) busy at 11, asked by REQ_UD2
-  pub e : (send (encode (short 0x5B 11)) october (opened busyAt11)) .segment .queue ≡ 0x68 ∷ 0x04 ∷ 0x04 ∷ 0x68 ∷ 0x08 ∷ 0x0B ∷ 0x70 ∷ 0x08 ∷ 0x8B ∷ 0x16 ∷ []
+  pub e : (send (encode (short 0x5B 11)) october (site busyAt11)) .segment .queue ≡ 0x68 ∷ 0x04 ∷ 0x04 ∷ 0x68 ∷ 0x08 ∷ 0x0B ∷ 0x70 ∷ 0x08 ∷ 0x8B ∷ 0x16 ∷ []
   -- (f) 01 F0 over 03
   pub f : joined ((0x01 ∷ 0xF0 ∷ []) ∷ (0x03 ∷ []) ∷ []) ≡ 0x01 ∷ 0xF0 ∷ []
   -- (g) 30.9.2026
@@ -98,4 +77,4 @@ pub record Table : Type 0 where
   pub k : outcome (walked twice) ≡ (many (7 ∷ 7 ∷ 7 ∷ 7 ∷ 7 ∷ 7 ∷ 7 ∷ 7 ∷ []) 2 ∷ [], 81, false)
   -- (l) ok10 at 2400: 201 probes, and its price
   pub l : (walked ok10) .probes ≡ 201
-  pub l-price : 1 + 10 * D (atBusBaud (opened ok10)) ≡ 201
+  pub l-price : 1 + 10 * D (atBusBaud (site ok10)) ≡ 201

@@ -1,9 +1,9 @@
 use mathlib.Core.Path.{_≡_}
 use lib.ListN.{length}
 use borrow.Author.Needs.{needs}
+use Rattle.search.specs.Site.{site}
 use Rattle.laws.proofs.Sweep.{length-mapped}
 use Rattle.scenarios.specs.Opening.{capacity}
-use Rattle.listing_text.specs.Listing.{listedSegment}
 use Rattle.listing_text.proofs.ListingLaws.{lists-refusal, lists-report}
 use Rattle.listing_text.proofs.list_into.Statement.{statement}
 use Rattle.listing_text.proofs.list_into.Tie as tie
@@ -35,7 +35,7 @@ report-requires : tie.Need-report-requires
 report-requires c κs = search needs
 
 returns-2 : tie.Need-returns-2
-unfolding capacity listedSegment
+unfolding capacity site
 returns-2 c =
     let o = c .before .before .before .before .before .before .before .open-list in
     let n = c .before .before .before .before .before .before .refusal-number in

@@ -25,8 +25,8 @@ mul-k c = search needs
 element-copy-out-k : tie.Need-element-copy-out-k Inv-loop μ-loop
 element-copy-out-k c = search needs
 
-within-requires : tie.Need-within-requires Inv-loop μ-loop
-within-requires c κs = search needs
+is-within-requires : tie.Need-is-within-requires Inv-loop μ-loop
+is-within-requires c κs = search needs
 
 bit-requires : tie.Need-bit-requires Inv-loop μ-loop
 bit-requires c κs = search needs
@@ -61,7 +61,7 @@ unfolding masked acked capacity
 loop-again c =
     let l = c .before .before .before .before .before .before in
     let b = c .before .before in
-    let e = c .mask-mark .ensures ∙ ap (λ h. marked (getD (l .loop .marks) (l .loop .i) 0) h) (b .bit .ensures .0 ∙ ap bitIf (b .before .within .ensures)) in
+    let e = c .mask-mark .ensures ∙ ap (λ h. marked (getD (l .loop .marks) (l .loop .i) 0) h) (b .bit .ensures .0 ∙ ap bitIf (b .before .is-within .ensures)) in
     (omega arith, omega arith, l .loop .inv .2, l .loop .inv .3, sweep-more 0 0 (l .loop .inv .4) (omega arith) (omega arith) e (ap (λ v. l .loop .acks + v % 2) e))
 
 returns : tie.Need-returns Inv-loop μ-loop
@@ -77,7 +77,7 @@ send-mask-spec =
     loop-holds
     mul-k
     element-copy-out-k
-    within-requires
+    is-within-requires
     bit-requires
     mul-mask-mark
     element-copy-out-mask-mark
