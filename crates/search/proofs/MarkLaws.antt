@@ -195,12 +195,12 @@ select-marked d m s k =
 
 pub record Silent (s : ℕ) : Type 0 where
   pub even : on (s % 2) ≡ false
-  pub deaf : on (s / 4 % 2) ≡ false
+  pub misses : on (s / 4 % 2) ≡ false
   pub steady : on (s / 16 % 2) ≡ false
   pub flaky′ : on (s / 32 % 2) ≡ false
 
 pub silent-zero : Silent 0
-silent-zero = record { even = refl; deaf = refl; steady = refl; flaky′ = refl }
+silent-zero = record { even = refl; misses = refl; steady = refl; flaky′ = refl }
 
 pub silent-marked : (s : ℕ) (b : Bool) → Silent s → Silent (marked s (bitIf b))
 silent-marked s b q =
@@ -208,8 +208,8 @@ silent-marked s b q =
     let x : marked s (bitIf b) / 16 % 2 ≡ s / 16 % 2 = omega arith in
     let y : marked s (bitIf b) / 32 % 2 ≡ s / 32 % 2 = omega arith in
     record {
-      even = marked-selected s b ∙ ap₂ (λ x y. (x || y) && b) (q .steady) (q .deaf);
-      deaf = marked-hears s b ∙ ap₂ (λ x y. turned x (y && b)) (q .deaf) (q .flaky′);
+      even = marked-selected s b ∙ ap₂ (λ x y. (x || y) && b) (q .steady) (q .misses);
+      misses = marked-hears s b ∙ ap₂ (λ x y. turned x (y && b)) (q .misses) (q .flaky′);
       steady = ap on x ∙ q .steady;
       flaky′ = ap on y ∙ q .flaky′;
     }

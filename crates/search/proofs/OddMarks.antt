@@ -59,7 +59,7 @@ one-odd bus p u w l m key s h odd = go (eqb (m .baud) bus) refl
           };
           has = ap (begins p) (h .digits) ∙ sym (inside-begins p u key w l (h .small)) ∙ and-r (on (s / 16 % 2) || on (s / 4 % 2)) b yes;
         }
-    go false e = absurd (false≢true (sym (ap₂ (λ x y. (x || y) && b) (h .away e .steady) (h .away e .deaf)) ∙ yes))
+    go false e = absurd (false≢true (sym (ap₂ (λ x y. (x || y) && b) (h .away e .steady) (h .away e .misses)) ∙ yes))
 
 pub all-odd : (bus : ℕ) (p : List ℕ) (u : ℕ) → Prefix p → length p + u ≡ 8 → (n : ℕ) (ms : List PlainMeter) (ks ss : List ℕ) → length ms ≤ n → AllHold bus ms ks ss
     → AllIfOdd bus p ms (sweptBy (masked (lowOf p u) (lowOf p u + spanOf u)) n ks ss)

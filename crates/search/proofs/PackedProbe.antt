@@ -150,7 +150,7 @@ module _ (k : Clock) (bus : ℕ) (o : Float) (p : List ℕ) (u : ℕ) (w : Prefi
         go false e =
             ap (λ b. called k bus o p (if b then asMarked m s else m)) e
             ∙ ap (λ x. x && (begins p (m .digits) && hears m)) e
-            ∙ sym (ap₂ (λ x y. (x || y) && begins p (m .digits)) (h .away e .steady) (h .away e .deaf))
+            ∙ sym (ap₂ (λ x y. (x || y) && begins p (m .digits)) (h .away e .steady) (h .away e .misses))
 
   -- ---- all meters
 
@@ -170,7 +170,7 @@ module _ (k : Clock) (bus : ℕ) (o : Float) (p : List ℕ) (u : ℕ) (w : Prefi
   none-called (suc n) a (key ∷ ks) [] q = refl
   none-called (suc n) a (key ∷ ks) (s ∷ ss) q =
       none-called n (a + masked low high key s % 2) ks ss (q .1)
-      ∙ omega (arith, marked-odd s (within low high key) ∙ ap bitIf (ap₂ (λ x y. (x || y) && within low high key) (q .0 .steady) (q .0 .deaf)))
+      ∙ omega (arith, marked-odd s (within low high key) ∙ ap bitIf (ap₂ (λ x y. (x || y) && within low high key) (q .0 .steady) (q .0 .misses)))
 
   all-called : (n a : ℕ) (ms : List PlainMeter) (ks ss : List ℕ) → length ms ≤ n → AllHold bus ms ks ss
       → foldBy (acked low high) a n ks ss ≡ a + length (keep (called k bus o p) (seenAll bus ms ss))

@@ -19,8 +19,8 @@ use Rattle.search.proofs.KeyDigits.{keyFrom, Nibbles, key-digits, digit
 abbrev pub zeros : ℕ → List ℕ
 zeros u = replicate u 0
 
-abbrev pub effs : ℕ → List ℕ
-effs u = replicate u 0xF
+abbrev pub unknowns : ℕ → List ℕ
+unknowns u = replicate u 0xF
 
 -- a number that is behind stays behind
 behind : (xs ys : List ℕ) (a b : ℕ) → a < b → length xs ≡ length ys → Nibbles xs → keyFrom a xs < keyFrom b ys
@@ -33,38 +33,38 @@ least : (ds : List ℕ) (a b : ℕ) → a ≤ b → keyFrom a (zeros (length ds)
 least [] a b h = h
 least (d ∷ ds) a b h = least ds (a * 16 + 0) (b * 16 + d) (omega arith)
 
-most : (ds : List ℕ) (a b : ℕ) → a ≤ b → Nibbles ds → keyFrom a ds ≤ keyFrom b (effs (length ds))
+most : (ds : List ℕ) (a b : ℕ) → a ≤ b → Nibbles ds → keyFrom a ds ≤ keyFrom b (unknowns (length ds))
 most [] a b h n = h
 most (d ∷ ds) a b h n = let p = n .0 in most ds (a * 16 + d) (b * 16 + 15) (omega arith) (n .1)
 
-nibbles-tail : (p : List ℕ) (u : ℕ) → Nibbles p → Nibbles (p ++ effs u)
+nibbles-tail : (p : List ℕ) (u : ℕ) → Nibbles p → Nibbles (p ++ unknowns u)
 nibbles-tail [] zero n = tt
 nibbles-tail [] (suc u) n = (omega arith, nibbles-tail [] u tt)
 nibbles-tail (d ∷ p) u n = (n .0, nibbles-tail p u (n .1))
 
 -- to have a prefix is to lie in its range
 pub range-begins : (u : ℕ) (p ds : List ℕ) (a : ℕ) → Nibbles p → Nibbles ds → length ds ≡ length p + u
-    → within (keyFrom a (p ++ zeros u)) (keyFrom a (p ++ effs u)) (keyFrom a ds) ≡ begins p ds
+    → within (keyFrom a (p ++ zeros u)) (keyFrom a (p ++ unknowns u)) (keyFrom a ds) ≡ begins p ds
 range-begins u [] ds a np nd l =
     let e : length ds ≡ u = omega arith in
     let lo : keyFrom a (zeros u) ≤ keyFrom a ds = rw (sym e) (least ds a a (omega arith)) in
-    let hi : keyFrom a ds ≤ keyFrom a (effs u) = rw (sym e) (most ds a a (omega arith) nd) in
+    let hi : keyFrom a ds ≤ keyFrom a (unknowns u) = rw (sym e) (most ds a a (omega arith) nd) in
     ap₂ (λ x y. x && y) (le-leb _ _ lo) (le-leb _ _ hi)
 range-begins u (d ∷ p) [] a np nd l = absurd (omega arith)
 range-begins u (d ∷ p) (x ∷ ds) a np nd l = go (eqb d x) (leb d x) refl refl (range-begins u p ds (a * 16 + d) (np .1) (nd .1) (omega arith))
   where
     go : (s t : Bool) → eqb d x ≡ s → leb d x ≡ t
-        → within (keyFrom (a * 16 + d) (p ++ zeros u)) (keyFrom (a * 16 + d) (p ++ effs u)) (keyFrom (a * 16 + d) ds) ≡ begins p ds
-        → within (keyFrom (a * 16 + d) (p ++ zeros u)) (keyFrom (a * 16 + d) (p ++ effs u)) (keyFrom (a * 16 + x) ds) ≡ (s && begins p ds)
+        → within (keyFrom (a * 16 + d) (p ++ zeros u)) (keyFrom (a * 16 + d) (p ++ unknowns u)) (keyFrom (a * 16 + d) ds) ≡ begins p ds
+        → within (keyFrom (a * 16 + d) (p ++ zeros u)) (keyFrom (a * 16 + d) (p ++ unknowns u)) (keyFrom (a * 16 + x) ds) ≡ (s && begins p ds)
     go true t es et ih = rw (sym (eqb-true d x es)) ih
     go false true es et ih =
         let h : d < x = omega (arith, leb-true d x et, eqb-false d x es) in
-        let g = behind (p ++ effs u) ds (a * 16 + d) (a * 16 + x) (omega arith) (omega (arith, length-append p (effs u), length-replicate {A = ℕ} u 0xF)) (nibbles-tail p u (np .1)) in
+        let g = behind (p ++ unknowns u) ds (a * 16 + d) (a * 16 + x) (omega arith) (omega (arith, length-append p (unknowns u), length-replicate {A = ℕ} u 0xF)) (nibbles-tail p u (np .1)) in
         ap (λ z. leb (keyFrom (a * 16 + d) (p ++ zeros u)) (keyFrom (a * 16 + x) ds) && z) (lt-leb _ _ g) ∙ and-false (leb (keyFrom (a * 16 + d) (p ++ zeros u)) (keyFrom (a * 16 + x) ds))
     go false false es et ih =
         let h : x < d = omega (arith, leb-false d x et) in
         let g = behind ds (p ++ zeros u) (a * 16 + x) (a * 16 + d) (omega arith) (omega (arith, length-append p (zeros u), length-replicate {A = ℕ} u 0)) (nd .1) in
-        ap (λ z. z && leb (keyFrom (a * 16 + x) ds) (keyFrom (a * 16 + d) (p ++ effs u))) (lt-leb _ _ g)
+        ap (λ z. z && leb (keyFrom (a * 16 + x) ds) (keyFrom (a * 16 + d) (p ++ unknowns u))) (lt-leb _ _ g)
 
 -- ---- the range's low end and its span, as the walk has them
 
@@ -85,7 +85,7 @@ span-top : (u : ℕ) → keyFrom 15 (zeros u) + spanOf u ≡ spanOf (suc u)
 unfolding spanOf
 span-top u = omega (arith, scale-add u 15 1, scale-sixteen u 1, scale-one u)
 
-pub high-end : (u a : ℕ) → keyFrom a (effs u) ≡ keyFrom a (zeros u) + spanOf u
+pub high-end : (u a : ℕ) → keyFrom a (unknowns u) ≡ keyFrom a (zeros u) + spanOf u
 unfolding spanOf
 high-end zero a = omega arith
 high-end (suc u) a =
@@ -109,12 +109,12 @@ key-append [] q a = refl
 key-append (d ∷ p) q a = key-append p q (a * 16 + d)
 
 -- its highest id is the mask, F for unknown
-pub high-of : (p : List ℕ) (u : ℕ) → keyFrom 0 (p ++ effs u) ≡ lowOf p u + spanOf u
-high-of p u = key-append p (effs u) 0 ∙ high-end u (keyFrom 0 p) ∙ ap (λ x. x + spanOf u) (sym (key-append p (zeros u) 0))
+pub high-of : (p : List ℕ) (u : ℕ) → keyFrom 0 (p ++ unknowns u) ≡ lowOf p u + spanOf u
+high-of p u = key-append p (unknowns u) 0 ∙ high-end u (keyFrom 0 p) ∙ ap (λ x. x + spanOf u) (sym (key-append p (zeros u) 0))
 
-pub mask-effs : (p : List ℕ) (u : ℕ) → length p + u ≡ 8 → maskDigits p ≡ p ++ effs u
+pub mask-unknowns : (p : List ℕ) (u : ℕ) → length p + u ≡ 8 → maskDigits p ≡ p ++ unknowns u
 unfolding maskDigits
-mask-effs p u l =
+mask-unknowns p u l =
     let e : 8 - length p ≡ u = omega arith in
     rw e
 
@@ -141,10 +141,10 @@ inside-begins p u key w l h =
 -- a mute's mask as a number
 pub mask-digits : (p : List ℕ) (u : ℕ) → Prefix p → length p + u ≡ 8 → (digitsOf (lowOf p u + spanOf u) ≡ maskDigits p) × (lowOf p u + spanOf u < 0x100000000)
 mask-digits p u w l =
-    let n : Nibbles (p ++ effs u) = nibbles-tail p u (digits-small p (w .digits)) in
-    let e : length (p ++ effs u) ≡ 8 = length-append p (effs u) ∙ ap (λ x. length p + x) (length-replicate {A = ℕ} u 0xF) ∙ l in (
-      ap digitsOf (sym (high-of p u)) ∙ digits-key (p ++ effs u) e n ∙ sym (mask-effs p u l),
-      omega (arith, high-of p u, key-small (p ++ effs u) e n),
+    let n : Nibbles (p ++ unknowns u) = nibbles-tail p u (digits-small p (w .digits)) in
+    let e : length (p ++ unknowns u) ≡ 8 = length-append p (unknowns u) ∙ ap (λ x. length p + x) (length-replicate {A = ℕ} u 0xF) ∙ l in (
+      ap digitsOf (sym (high-of p u)) ∙ digits-key (p ++ unknowns u) e n ∙ sym (mask-unknowns p u l),
+      omega (arith, high-of p u, key-small (p ++ unknowns u) e n),
     )
 
 -- eight digits as a number

@@ -114,8 +114,8 @@ read-parts s h c u ph pc e =
     access-is : (x : ℕ) → (x + 1) % 256 ≡ (x % 256 + 1) % 256
     access-is x = omega arith
 
-deaf-parts : (s h u : ℕ) → h ≤ 1 → u ≡ s / 8 * 8 + h * 4 + s % 4 → Parts u (s % 2) (s / 2 % 2) h (s / 8 % 2) (s / 65536 % 256) (s / 256 % 256) (s / 16 % 16)
-deaf-parts s h u ph e =
+missed-parts : (s h u : ℕ) → h ≤ 1 → u ≡ s / 8 * 8 + h * 4 + s % 4 → Parts u (s % 2) (s / 2 % 2) h (s / 8 % 2) (s / 65536 % 256) (s / 256 % 256) (s / 16 % 16)
+missed-parts s h u ph e =
     let l = low-bits s in
     let n = near (s % 4) h (s / 8) u (l .2) ph e in
     let w = far u s (n .3) in
@@ -131,9 +131,9 @@ answers-mark : (s : ℕ) → yesOf s (s % 2) ≡ 1 → readMark s ≡ s / 16 % 1
 unfolding readMark
 answers-mark s e = rw e
 
-deaf-mark : (s : ℕ) → yesOf s (s % 2) ≡ 0 → readMark s ≡ s / 8 * 8 + hearsOf s (s % 2) * 4 + s % 4
+missed-mark : (s : ℕ) → yesOf s (s % 2) ≡ 0 → readMark s ≡ s / 8 * 8 + hearsOf s (s % 2) * 4 + s % 4
 unfolding readMark
-deaf-mark s e = rw e
+missed-mark s e = rw e
 
 -- the bit to which a reading is put
 pub put-is : (s : ℕ) → s % 2 ≡ bitIf (on (s % 2))
@@ -148,7 +148,7 @@ module _ (s : ℕ) where
   read-kept = go (yesOf s (s % 2)) (rw (put-is s) (bit-small (yes-bit s (on (s % 2))))) refl
     where
       go : (y : ℕ) → y ≤ 1 → yesOf s (s % 2) ≡ y → (readMark s % 2 ≡ s % 2) × (readMark s / 16 % 16 ≡ s / 16 % 16) × (readMark s / 4 % 2 ≡ hearsOf s (s % 2))
-      go zero h e = let p = deaf-parts s (hearsOf s (s % 2)) (readMark s) hears-small (deaf-mark s e) in (p .selected, p .kind, p .hears)
+      go zero h e = let p = missed-parts s (hearsOf s (s % 2)) (readMark s) hears-small (missed-mark s e) in (p .selected, p .kind, p .hears)
       go (suc zero) h e = let p = read-parts s (hearsOf s (s % 2)) (readoutsIn s % 256) (readMark s) hears-small (omega arith) (answers-mark s e) in (p .selected, p .kind, p .hears)
       go (suc (suc y)) h e = absurd (omega arith)
 
@@ -162,7 +162,7 @@ silent-read s q =
     let b : readMark s / 32 % 2 ≡ s / 32 % 2 = half (readMark s) s (e .1) in
     record {
       even = ap on (e .0) ∙ q .even;
-      deaf = ap on (e .2 ∙ ap (hearsOf s) (put-is s)) ∙ bit-on (hears-bit s (on (s % 2))) ∙ ap₂ (λ x y. turned x (y && on (s % 2))) (q .deaf) (q .flaky′);
+      misses = ap on (e .2 ∙ ap (hearsOf s) (put-is s)) ∙ bit-on (hears-bit s (on (s % 2))) ∙ ap₂ (λ x y. turned x (y && on (s % 2))) (q .misses) (q .flaky′);
       steady = ap on a ∙ q .steady;
       flaky′ = ap on b ∙ q .flaky′;
     }
@@ -185,7 +185,7 @@ silent-read s q =
 -- a meter that is not selected is left alone
 pub even-read : (s : ℕ) → on (s % 2) ≡ false → readMark s ≡ s
 even-read s e =
-    deaf-mark s (ap (yesOf s) put ∙ bit-is (yes-bit s false) ∙ ap bitIf (and-false (on (s / 16 % 2) || on (s / 4 % 2))))
+    missed-mark s (ap (yesOf s) put ∙ bit-is (yes-bit s false) ∙ ap bitIf (and-false (on (s / 16 % 2) || on (s / 4 % 2))))
     ∙ ap (λ h. s / 8 * 8 + h * 4 + s % 4) (ap (hearsOf s) put ∙ bit-is (hears-bit s false) ∙ ap (λ b. bitIf (turned (on (s / 4 % 2)) b)) (and-false (on (s / 32 % 2))) ∙ sym (bit-is (bit-of (s / 4 % 2) (omega arith))))
     ∙ omega arith
   where
@@ -212,7 +212,7 @@ module _ (m : PlainMeter) (s : ℕ) (q : Fresh m s) where
   afterwards : (y : ℕ) → y ≤ 1 → yesOf s 1 ≡ y → asMarked m (readMark s) ≡ read-to (on y)
   unfolding readoutsIn
   afterwards zero h e =
-      parts-stand m (readMark s) _ _ _ _ _ _ _ (deaf-parts s (hearsOf s 1) (readMark s) (bit-small (hears-bit s true)) (deaf-mark s (ap (yesOf s) (q .selected) ∙ e) ∙ ap (λ x. s / 8 * 8 + hearsOf s x * 4 + s % 4) (q .selected)))
+      parts-stand m (readMark s) _ _ _ _ _ _ _ (missed-parts s (hearsOf s 1) (readMark s) (bit-small (hears-bit s true)) (missed-mark s (ap (yesOf s) (q .selected) ∙ e) ∙ ap (λ x. s / 8 * 8 + hearsOf s x * 4 + s % 4) (q .selected)))
       ∙ rw (q .selected, q .fresh, q .clear, hearing-is)
   afterwards (suc zero) h e =
       parts-stand m (readMark s) _ _ _ _ _ _ _ (read-parts s (hearsOf s 1) (readoutsIn s % 256) (readMark s) (bit-small (hears-bit s true)) (omega arith)
