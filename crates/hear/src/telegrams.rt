@@ -71,8 +71,8 @@ pub(crate) fn sets_baud(ci: u8, data: &[u8]) -> bool
     data.len() == 0
 }
 
-// Addresses FE and FF.
-fn is_to_all(address: u8) -> bool
+// Addresses FE and FF reach every meter.
+fn reaches_all(address: u8) -> bool
     ensures { λ r. ⌜ r ≡ (eqb address 0xFE || eqb address 0xFF) ⌝ }
 {
     if address == frame::ADDR_BROADCAST_REPLY {
@@ -85,7 +85,7 @@ fn is_to_all(address: u8) -> bool
 pub(crate) fn reaches(address: u8, primary: u8, selected: bool) -> bool
     ensures { λ r. ⌜ r ≡ reaches address primary selected ⌝ }
 {
-    if is_to_all(address) {
+    if reaches_all(address) {
         return true;
     }
     if address == frame::ADDR_SELECTED {

@@ -19,7 +19,7 @@ alike (d ∷ ds) (v ∷ vs) = (eqb d 0xF || eqb d v) && alike ds vs
 abbrev pub idMatches : List ℕ → List ℕ → Bool
 idMatches d digits = leb 8 (length d) && alike (nibbles d) digits
 
--- ".. ; then FF FF or the manufacturer's code, low byte first;
+-- "..; then FF FF or the manufacturer's code, low byte first;
 -- FF or the version; FF or the medium."
 unfoldable pub matches : List ℕ → PlainMeter → Bool
 matches d m =

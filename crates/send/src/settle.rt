@@ -131,7 +131,7 @@ pub(crate) fn settle(segment: Segment, bytes: &[u8], clock: Clock) -> Sent
                     let queued = least(t.queued, QUEUE);
                     let n = replies::length_of(kept);
                     if QUEUE - queued < n {
-                        // Refused: what the telegrams before this one changed is set back.
+                        // Refused: what the telegrams changed, this one too, is set back.
                         t.meters = meters;
                         t.queued = segment.queued;
                         return Sent {

@@ -3,17 +3,17 @@ use mathlib.Core.Path.{sym, _∙_}
 use Rattle.hear.proofs.telegrams.reaches.Statement.{statement}
 use Rattle.hear.proofs.telegrams.reaches.Tie as tie
 
-is-to-all-requires : tie.Need-is-to-all-requires
-is-to-all-requires c κs = tt
+reaches-all-requires : tie.Need-reaches-all-requires
+reaches-all-requires c κs = tt
 
 returns : tie.Need-returns
-returns c = rw (sym (c .before .is-to-all .ensures) ∙ c .if1 .taken)
+returns c = rw (sym (c .before .reaches-all .ensures) ∙ c .if1 .taken)
 
 returns-2 : tie.Need-returns-2
-returns-2 c = rw (sym (c .before .before .is-to-all .ensures) ∙ c .before .if1 .left, eq-eqb _ _ (c .if2 .taken))
+returns-2 c = rw (sym (c .before .before .reaches-all .ensures) ∙ c .before .if1 .left, eq-eqb _ _ (c .if2 .taken))
 
 returns-3 : tie.Need-returns-3
-returns-3 c = rw (sym (c .before .before .is-to-all .ensures) ∙ c .before .if1 .left, ne-eqb _ _ (c .if2 .left))
+returns-3 c = rw (sym (c .before .before .reaches-all .ensures) ∙ c .before .if1 .left, ne-eqb _ _ (c .if2 .left))
 
 pub reaches-spec : {M : Type 1} → statement M
-reaches-spec = tie.close (tie.spec is-to-all-requires returns returns-2 returns-3)
+reaches-spec = tie.close (tie.spec reaches-all-requires returns returns-2 returns-3)
