@@ -1,8 +1,10 @@
 /* The simulated M-Bus segment: the entry points of the static library.
  *
- * A segment is an image, JEZYNAR_IMAGE bytes that the caller keeps between the calls. Any bytes are an image.
- * A call that writes it writes every byte, those not in use as 0: equal segments then have equal images.
- * The library has no state of its own, and a thread with 128 KiB of stack is enough for every call.
+ * A segment is an image, JEZYNAR_IMAGE bytes that the caller keeps between the calls. Any bytes mean a segment.
+ * Each segment has one image in which bytes that are not in use are 0 and a NaN has one pattern: segment_new,
+ * segment_tidy and an accepted segment_open write it, and every other call keeps it so. Equal segments then have
+ * equal images.
+ * The library has no state of its own, and a thread with 64 KiB of stack is enough for every call.
  * A slice crosses as a pointer and its length; an array as a pointer to exactly that many bytes. The image, and lent
  * memory that is written, overlap no other memory of the same call. An empty slice may have any pointer.
  *
@@ -35,6 +37,9 @@ size_t segment_image_len(void);
 
 /* A segment with no meters, 2400 Bd, origin 0. */
 void segment_new(uint8_t image[JEZYNAR_IMAGE]);
+
+/* Writes the one image of the segment that the bytes mean, for an image that came from elsewhere. */
+void segment_tidy(uint8_t image[JEZYNAR_IMAGE]);
 
 /* Opens the segment of a list of meters at a bus baud, with the practice flag and the origin of its time.
  * The list: the byte 01; in two bytes, the high one first, how many bytes follow; a record for each meter, at most 64.

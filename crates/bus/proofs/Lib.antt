@@ -1,3 +1,0 @@
-pub mod BaudLaws
-pub mod OpenLaws
-pub mod ReceiveLaws

@@ -17,9 +17,15 @@ pub record Plain : Type 0 where
 unfoldable pub blank : Plain
 blank = record { baud = 2400; origin = zeroSeconds; input = []; queue = []; meters = [] }
 
--- with other waiting input, and with another queue
+-- with another bus baud, other waiting input, another queue, other meters
+abbrev pub withBaud : ℕ → Plain → Plain
+withBaud b s = record { baud = b; origin = s .origin; input = s .input; queue = s .queue; meters = s .meters }
+
 abbrev pub withInput : List ℕ → Plain → Plain
 withInput bs s = record { baud = s .baud; origin = s .origin; input = bs; queue = s .queue; meters = s .meters }
 
 abbrev pub withQueue : List ℕ → Plain → Plain
 withQueue bs s = record { baud = s .baud; origin = s .origin; input = s .input; queue = bs; meters = s .meters }
+
+abbrev pub withMeters : List PlainMeter → Plain → Plain
+withMeters ms s = record { baud = s .baud; origin = s .origin; input = s .input; queue = s .queue; meters = ms }

@@ -15,21 +15,22 @@ use contract.Monad.{fact}
 use contract.Running.{Running, GhostRules}
 use contract.Adequate.{Satisfies}
 use Rattle.bus.specs.declared.Segment.{Segment}
-use Rattle.bus.specs.declared.Changed.{Changed}
+use Rattle.segment_by_value.specs.declared.Changed.{Changed}
 use Rattle.bus.specs.Plain.{blank}
 use Rattle.bus.specs.Calls.{clear, changeBaud}
-use Rattle.bus.specs.View.{plainOf, changedOf}
+use Rattle.bus.specs.View.{plainOf}
+use Rattle.segment_by_value.specs.View.{changedOf}
 use Rattle.bus.proofs.Segment.Laws as segment-laws
-use Rattle.bus.proofs.Changed.Laws as changed-laws
+use Rattle.segment_by_value.proofs.Changed.Laws as changed-laws
 use Rattle.bus.proofs.Segment.new as new-contract
 use Rattle.bus.proofs.Segment.new.Symbol.{routine as new-routine}
 use Rattle.bus.proofs.Segment.new.Met as new-met
-use Rattle.bus.proofs.clear as clear-contract
-use Rattle.bus.proofs.clear.Symbol.{routine as clear-routine}
-use Rattle.bus.proofs.clear.Met as clear-met
-use Rattle.bus.proofs.set_baud as set-baud-contract
-use Rattle.bus.proofs.set_baud.Symbol.{routine as set-baud-routine}
-use Rattle.bus.proofs.set_baud.Met as set-baud-met
+use Rattle.segment_by_value.proofs.clear as clear-contract
+use Rattle.segment_by_value.proofs.clear.Symbol.{routine as clear-routine}
+use Rattle.segment_by_value.proofs.clear.Met as clear-met
+use Rattle.segment_by_value.proofs.set_baud as set-baud-contract
+use Rattle.segment_by_value.proofs.set_baud.Symbol.{routine as set-baud-routine}
+use Rattle.segment_by_value.proofs.set_baud.Met as set-baud-met
 use Rattle.calls.specs.Fit.{Word}
 use Rattle.calls.proofs.Machine.{by-value, said}
 use Rattle.calls.proofs.Arguments.{one, Held, held-by, segment-own, word-own, both, none}

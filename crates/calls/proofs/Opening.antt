@@ -21,13 +21,14 @@ use contract.Adequate.{Satisfies}
 use ghost.Atoms.{sem}
 use denote.Builtin.{u8, u32, f64, bool}
 use Rattle.bus.specs.declared.Segment.{Segment}
-use Rattle.bus.specs.declared.Opened.{Opened}
-use Rattle.bus.specs.View.{plainOf, Opens}
+use Rattle.segment_by_value.specs.declared.Opened.{Opened}
+use Rattle.bus.specs.View.{plainOf}
+use Rattle.segment_by_value.specs.View.{Opens}
 use Rattle.bus.proofs.Segment.Laws as segment-laws
-use Rattle.bus.proofs.Opened.Laws as opened-laws
-use Rattle.bus.proofs.open as open-contract
-use Rattle.bus.proofs.open.Symbol.{routine as open-routine}
-use Rattle.bus.proofs.open.Met as open-met
+use Rattle.segment_by_value.proofs.Opened.Laws as opened-laws
+use Rattle.segment_by_value.proofs.open as open-contract
+use Rattle.segment_by_value.proofs.open.Symbol.{routine as open-routine}
+use Rattle.segment_by_value.proofs.open.Met as open-met
 use Rattle.calls.specs.Fit.{LentBytes, Word, Double}
 use Rattle.calls.specs.Made.{withBytes, lentAt}
 use Rattle.calls.proofs.Machine.{said}

@@ -24,14 +24,15 @@ use denote.Plain.{uint-makes, uint-lawful, uint-tells}
 use denote.Slice.{finally}
 use types.SemTy.{cells}
 use Rattle.bus.specs.declared.Segment.{Segment}
-use Rattle.bus.specs.declared.Received.{Received}
+use Rattle.segment_by_value.specs.declared.Received.{Received}
 use Rattle.bus.specs.Calls.{receive}
-use Rattle.bus.specs.View.{plainOf, receivedOf}
+use Rattle.bus.specs.View.{plainOf}
+use Rattle.segment_by_value.specs.View.{receivedOf}
 use Rattle.bus.proofs.Segment.Laws as segment-laws
-use Rattle.bus.proofs.Received.Laws as received-laws
-use Rattle.bus.proofs.receive as receive-contract
-use Rattle.bus.proofs.receive.Symbol.{routine as receive-routine}
-use Rattle.bus.proofs.receive.Met as receive-met
+use Rattle.segment_by_value.proofs.Received.Laws as received-laws
+use Rattle.segment_by_value.proofs.receive as receive-contract
+use Rattle.segment_by_value.proofs.receive.Symbol.{routine as receive-routine}
+use Rattle.segment_by_value.proofs.receive.Met as receive-met
 use Rattle.calls.specs.Fit.{LentBytes}
 use Rattle.calls.specs.Lent.{Loads}
 use Rattle.calls.specs.Made.{withBytes, lentAt}

@@ -23,13 +23,13 @@ use Rattle.clock.proofs.Clock.Laws as clock-laws
 use Rattle.bus.specs.declared.Segment.{Segment}
 use Rattle.bus.specs.View.{plainOf}
 use Rattle.bus.proofs.Segment.Laws as segment-laws
-use Rattle.send.specs.declared.Sent.{Sent}
+use Rattle.segment_by_value.specs.declared.Sent.{Sent}
 use Rattle.send.specs.Send.{send}
-use Rattle.send.specs.View.{sentOf}
-use Rattle.send.proofs.Sent.Laws as sent-laws
-use Rattle.send.proofs.send as send-contract
-use Rattle.send.proofs.send.Symbol.{routine as send-routine}
-use Rattle.send.proofs.send.Met as send-met
+use Rattle.segment_by_value.specs.View.{sentOf}
+use Rattle.segment_by_value.proofs.Sent.Laws as sent-laws
+use Rattle.segment_by_value.proofs.send as send-contract
+use Rattle.segment_by_value.proofs.send.Symbol.{routine as send-routine}
+use Rattle.segment_by_value.proofs.send.Met as send-met
 use Rattle.calls.specs.Fit.{LentBytes, FitClock}
 use Rattle.calls.specs.Made.{withBytes, lentAt}
 use Rattle.calls.proofs.Machine.{said}

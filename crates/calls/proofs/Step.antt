@@ -19,15 +19,15 @@ use Rattle.bus.specs.declared.Segment.{Segment}
 use Rattle.bus.specs.Calls as plain
 use Rattle.bus.specs.View.{plainOf}
 use Rattle.bus.proofs.Segment.Laws.{lowered as segment-value}
-use Rattle.bus.proofs.Opened.Laws.{lowered as opened-value}
-use Rattle.bus.proofs.Received.Laws.{lowered as received-value}
-use Rattle.bus.proofs.Changed.Laws.{lowered as changed-value}
-use Rattle.bus.proofs.open.Symbol.{routine as open-routine}
-use Rattle.bus.proofs.receive.Symbol.{routine as receive-routine}
-use Rattle.bus.proofs.clear.Symbol.{routine as clear-routine}
-use Rattle.bus.proofs.set_baud.Symbol.{routine as set-baud-routine}
-use Rattle.send.proofs.Sent.Laws.{lowered as sent-value}
-use Rattle.send.proofs.send.Symbol.{routine as send-routine}
+use Rattle.segment_by_value.proofs.Opened.Laws.{lowered as opened-value}
+use Rattle.segment_by_value.proofs.Received.Laws.{lowered as received-value}
+use Rattle.segment_by_value.proofs.Changed.Laws.{lowered as changed-value}
+use Rattle.segment_by_value.proofs.open.Symbol.{routine as open-routine}
+use Rattle.segment_by_value.proofs.receive.Symbol.{routine as receive-routine}
+use Rattle.segment_by_value.proofs.clear.Symbol.{routine as clear-routine}
+use Rattle.segment_by_value.proofs.set_baud.Symbol.{routine as set-baud-routine}
+use Rattle.segment_by_value.proofs.Sent.Laws.{lowered as sent-value}
+use Rattle.segment_by_value.proofs.send.Symbol.{routine as send-routine}
 use Rattle.search.specs.SearchCall as walk
 use Rattle.search.specs.View.{searchedOf}
 use Rattle.search.specs.Call.{Call, opening, sending, receiving, clearing, changing, searching, afterCall}

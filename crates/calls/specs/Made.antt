@@ -12,11 +12,11 @@ use prog.Memory.{Memory}
 use prog.Routine.{ends}
 use denote.Slice.{sliceVal}
 use Rattle.clock.proofs.Clock.Laws.{lowered as clock-value}
-use Rattle.bus.proofs.open.Symbol.{routine as open-routine}
-use Rattle.bus.proofs.receive.Symbol.{routine as receive-routine}
-use Rattle.bus.proofs.clear.Symbol.{routine as clear-routine}
-use Rattle.bus.proofs.set_baud.Symbol.{routine as set-baud-routine}
-use Rattle.send.proofs.send.Symbol.{routine as send-routine}
+use Rattle.segment_by_value.proofs.open.Symbol.{routine as open-routine}
+use Rattle.segment_by_value.proofs.receive.Symbol.{routine as receive-routine}
+use Rattle.segment_by_value.proofs.clear.Symbol.{routine as clear-routine}
+use Rattle.segment_by_value.proofs.set_baud.Symbol.{routine as set-baud-routine}
+use Rattle.segment_by_value.proofs.send.Symbol.{routine as send-routine}
 use Rattle.search.proofs.EntryRecord.Laws.{mir as record-ty, lowered as record-value}
 use Rattle.search.proofs.search.Symbol.{routine as search-routine}
 use Rattle.search.specs.declared.EntryRecord.{EntryRecord}

@@ -7,16 +7,16 @@ use mir.Syntax.{w8, tyInt}
 use mir.Val.{Val, vint}
 use prog.Memory.{Memory}
 use Rattle.refusals.specs.Refusals.{refusalNumber, refusalIndex}
-use Rattle.bus.specs.declared.Opened.{Opened}
-use Rattle.bus.specs.declared.Received.{Received}
-use Rattle.bus.specs.declared.Changed.{Changed}
-use Rattle.bus.specs.View.{changingNumber}
-use Rattle.bus.proofs.Opened.Laws.{lowered as opened-value}
-use Rattle.bus.proofs.Received.Laws.{lowered as received-value}
-use Rattle.bus.proofs.Changed.Laws.{lowered as changed-value}
-use Rattle.send.specs.declared.Sent.{Sent}
+use Rattle.segment_by_value.specs.declared.Opened.{Opened}
+use Rattle.segment_by_value.specs.declared.Received.{Received}
+use Rattle.segment_by_value.specs.declared.Changed.{Changed}
+use Rattle.segment_calls.specs.View.{changingNumber}
+use Rattle.segment_by_value.proofs.Opened.Laws.{lowered as opened-value}
+use Rattle.segment_by_value.proofs.Received.Laws.{lowered as received-value}
+use Rattle.segment_by_value.proofs.Changed.Laws.{lowered as changed-value}
+use Rattle.segment_by_value.specs.declared.Sent.{Sent}
 use Rattle.send.specs.View.{sendingNumber}
-use Rattle.send.proofs.Sent.Laws.{lowered as sent-value}
+use Rattle.segment_by_value.proofs.Sent.Laws.{lowered as sent-value}
 use Rattle.search.specs.declared.EntryRecord.{EntryRecord}
 use Rattle.search.specs.declared.Searched.{Searched}
 use Rattle.search.specs.View.{outcomeNumber}

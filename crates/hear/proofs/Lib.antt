@@ -1,4 +1,3 @@
-pub mod ConcernLaws
 pub mod HearLaws
 pub mod KeepLaws
 pub mod Slips

@@ -1,3 +1,2 @@
-pub mod Concern
 pub mod Hear
 pub mod View

@@ -2,11 +2,9 @@
 ghost use mathlib.Core.Path.{_≡_};
 ghost use lib.Ieee.{Float};
 ghost use Rattle.frame.specs.View.{telegramOf};
-ghost use Rattle.identity.specs.Identity.{digitsOf};
 ghost use Rattle.clock.specs.declared.Clock.{Clock};
 ghost use Rattle.meter.specs.View.{plainMeter};
 ghost use Rattle.hear.specs.Hear.{hear};
-ghost use Rattle.hear.specs.Concern.{concerns};
 ghost use Rattle.hear.specs.View.{heardOf};
 use frame::Frame;
 use meter::Meter;
@@ -43,23 +41,5 @@ pub fn hear(m: Meter, bus: u32, frame: Frame, data: &[u8]) -> Heard
         }
     } else {
         steps::quiet(m)
-    }
-}
-
-// Whether a telegram can do anything to a meter with this primary address, selection and id. The others need no step.
-pub fn concerns(frame: Frame, data: &[u8], primary: u8, selected: bool, id: u32) -> bool
-    ensures { λ r. ⌜ r ≡ concerns (telegramOf frame (now («data» .entry))) primary selected (digitsOf id) ⌝ }
-{
-    match frame {
-        Frame::Ack => false,
-        Frame::Short {
-            control: _,
-            address,
-        } => telegrams::reaches(address, primary, selected),
-        Frame::Long {
-            control: _,
-            address,
-            ci,
-        } => telegrams::select_or_target(ci, address, data, primary, selected, id),
     }
 }

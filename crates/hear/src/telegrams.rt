@@ -1,14 +1,9 @@
 // Which telegram it is, and whether it is for a meter.
 ghost use mathlib.Core.Path.{_≡_};
 ghost use mathlib.Core.Bool.{_||_};
-ghost use Prim.Native.Nat.{ℕ};
 ghost use lib.Dec.{eqb};
-ghost use Rattle.frame.specs.Frame.{long};
-ghost use Rattle.identity.specs.Identity.{digitsOf};
 ghost use Rattle.hear.specs.Hear.{isNke, isReqUd2, fcbOf, isSndUd, isSelect, setsPrimary, setsBaud, reaches, target};
-ghost use Rattle.hear.specs.Concern.{concerns};
 ghost use Rattle.meter.specs.View.{plainMeter};
-use matching::id_matches;
 use meter::Meter;
 
 pub(crate) fn is_nke(control: u8) -> bool
@@ -82,7 +77,7 @@ fn reaches_all(address: u8) -> bool
 }
 
 // FE and FF reach all, FD the selected, any other the meter with this primary address.
-pub(crate) fn reaches(address: u8, primary: u8, selected: bool) -> bool
+fn reaches(address: u8, primary: u8, selected: bool) -> bool
     ensures { λ r. ⌜ r ≡ reaches address primary selected ⌝ }
 {
     if reaches_all(address) {
@@ -98,26 +93,6 @@ pub(crate) fn is_target(m: Meter, address: u8) -> bool
     ensures { λ r. ⌜ r ≡ target address (plainMeter m) ⌝ }
 {
     reaches(address, m.primary, m.selected)
-}
-
-// A select concerns the selected and those whose id it matches; any other telegram its target.
-pub(crate) fn select_or_target(
-    ci: u8,
-    address: u8,
-    data: &[u8],
-    primary: u8,
-    selected: bool,
-    id: u32,
-) -> bool
-    ensures { λ r. ⌜ ((c : ℕ) → r ≡ concerns (long c address ci (now («data» .entry))) primary selected (digitsOf id)) ⌝ }
-{
-    if is_select(ci, address) {
-        if selected {
-            return true;
-        }
-        return id_matches(id, data);
-    }
-    reaches(address, primary, selected)
 }
 
 // Addresses FD and FF, to which an NKE deselects.

@@ -67,6 +67,10 @@ imageOf s =
     ++ filled 4096 (s .queue)
     ++ filled (25 * capacity) (each (s .meters) meterBytes)
 
+-- bytes that are the one image of the segment that they mean
+abbrev pub Exact : List ℕ → Type 0
+Exact bs = bs ≡ imageOf (imaged bs)
+
 -- the image of a segment, which means it
 pub record IsImage (s : Plain) (bs : List ℕ) : Type 0 where
   pub bytes : bs ≡ imageOf s

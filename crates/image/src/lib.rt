@@ -4,7 +4,6 @@ ghost use mathlib.Core.Path.{_≡_};
 ghost use mathlib.Core.List.{map, _++_};
 ghost use Prim.Native.Nat.{_+_, _*_, _≤_, _<_};
 ghost use lib.ListN.{length, take, drop, replicate};
-ghost use lib.Seq.{paste};
 ghost use Rattle.laws.specs.Words.{each};
 ghost use Rattle.scenarios.specs.Opening.{capacity};
 ghost use Rattle.meter.specs.View.{plainMeter};
@@ -23,8 +22,24 @@ use numbers::two;
 
 mod copying; // copying.rt: the eight bytes of an f64's pattern, and blocks of bytes
 
-// The numbers, the input, the queue, and 25 bytes for each meter.
-pub const IMAGE: usize = 18 + INPUT + QUEUE + 25 * METERS;
+// Where the parts lie: how many meters there are, how many bytes wait and how many are queued, two bytes each; the input; the queue; the meters, and how
+// many bytes each has.
+pub const COUNT_AT: usize = 12;
+
+pub const WAITING_AT: usize = 14;
+
+pub const QUEUED_AT: usize = 16;
+
+pub const INPUT_AT: usize = 18;
+
+pub const QUEUE_AT: usize = INPUT_AT + INPUT;
+
+pub const METERS_AT: usize = QUEUE_AT + QUEUE;
+
+pub const METER: usize = 25;
+
+// How many bytes an image has.
+pub const IMAGE: usize = METERS_AT + METER * METERS;
 
 // ---- the meters
 
@@ -42,8 +57,8 @@ fn read_meters(bs: &[u8], count: usize) -> [Meter; METERS]
     let mut ms = blank_meters();
     let mut i: usize = 0;
     while i < count {
-        let p = 25 * i;
-        let m = meters::read_meter(&bs[p..p + 25]);
+        let p = METER * i;
+        let m = meters::read_meter(&bs[p..p + METER]);
         ms[i] = m;
         i += 1;
     }
@@ -59,7 +74,7 @@ fn write_meters(ms: [Meter; METERS], count: usize, bs: &mut [u8])
     while i < count {
         let m = ms[i];
         let b = meters::meter_bytes(m);
-        copying::copy(&b, 0, 25, bs, 25 * i);
+        copying::copy(&b, 0, METER, bs, METER * i);
         i += 1;
     }
 }
@@ -76,7 +91,7 @@ fn read_input(bs: &[u8], n: usize) -> [u8; INPUT]
     ensures { λ r. ⌜ take n r ≡ block 18 n (now (bs .entry)) ⌝ }
 {
     let mut input = blank_input();
-    copying::copy(bs, 18, n, &mut input, 0);
+    copying::copy(bs, INPUT_AT, n, &mut input, 0);
     input
 }
 
@@ -90,7 +105,7 @@ fn read_queue(bs: &[u8], n: usize) -> [u8; QUEUE]
     ensures { λ r. ⌜ take n r ≡ block 278 n (now (bs .entry)) ⌝ }
 {
     let mut queue = blank_queue();
-    copying::copy(bs, 278, n, &mut queue, 0);
+    copying::copy(bs, QUEUE_AT, n, &mut queue, 0);
     queue
 }
 
@@ -104,7 +119,7 @@ pub fn read_image(image: &[u8; IMAGE]) -> Segment
     let queued = least(two(bs[16], bs[17]) as usize, QUEUE);
     let input = read_input(bs, waiting);
     let queue = read_queue(bs, queued);
-    let meters = read_meters(&bs[4374..], count);
+    let meters = read_meters(&bs[METERS_AT..], count);
     Segment {
         meters,
         count,
@@ -118,7 +133,7 @@ pub fn read_image(image: &[u8; IMAGE]) -> Segment
 }
 
 // The first 18 bytes. A NaN goes as one fixed pattern.
-fn head_bytes(baud: u32, origin: f64, count: usize, waiting: usize, queued: usize) -> [u8; 18]
+fn head_bytes(baud: u32, origin: f64, count: usize, waiting: usize, queued: usize) -> [u8; INPUT_AT]
     requires { ⌜ (count < 65536) × (waiting < 65536) × (queued < 65536) ⌝ }
     ensures { λ r. ⌜ (r ≡ headBytes baud origin count waiting queued) × Head baud origin count waiting queued r ⌝ }
 {
@@ -161,10 +176,10 @@ fn write_parts(s: Segment, bs: &mut [u8])
     let input = s.input;
     let queue = s.queue;
     let meters = s.meters;
-    copying::copy(&head, 0, 18, bs, 0);
-    copying::copy(&input, 0, waiting, bs, 18);
-    copying::copy(&queue, 0, queued, bs, 278);
-    write_meters(meters, count, &mut bs[4374..]);
+    copying::copy(&head, 0, INPUT_AT, bs, 0);
+    copying::copy(&input, 0, waiting, bs, INPUT_AT);
+    copying::copy(&queue, 0, queued, bs, QUEUE_AT);
+    write_meters(meters, count, &mut bs[METERS_AT..]);
 }
 
 // The image of the segment. Equal segments have equal images.
@@ -175,15 +190,23 @@ pub fn write_image(s: Segment, image: &mut [u8; IMAGE])
     write_parts(s, image)
 }
 
+// The one image of the segment that the bytes mean, in their place.
+pub fn tidy(image: &mut [u8; IMAGE])
+    ensures { λ _. ⌜ IsImage (imaged (now (image .entry))) (now (image .exit)) ⌝ }
+{
+    let s = read_image(image);
+    write_image(s, image)
+}
+
 fn blank_image() -> [u8; IMAGE] {
     [0u8; IMAGE]
 }
 
-// Written and read back, every segment is the same plain segment, with a NaN as its origin too.
-pub fn round_trip(s: Segment) -> Segment
-    ensures { λ r. ⌜ plainOf r ≡ plainOf s ⌝ }
+// The image of a segment by value.
+pub fn image_of(s: Segment) -> [u8; IMAGE]
+    ensures { λ r. ⌜ IsImage (plainOf s) r ⌝ }
 {
     let mut image = blank_image();
     write_image(s, &mut image);
-    read_image(&image)
+    image
 }

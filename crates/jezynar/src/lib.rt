@@ -1,6 +1,6 @@
 // The entry points of the static library. The segment is an image that the caller keeps between the calls.
 ghost use mathlib.Core.Path.{_≡_};
-ghost use Prim.Native.Nat.{_+_, _*_, _<_};
+ghost use Prim.Native.Nat.{_+_, _*_, _/_, _%_, _<_};
 ghost use Rattle.frame.specs.Frame;
 ghost use Rattle.telegram_writer.specs.Writer.{write};
 ghost use Rattle.refusals.specs.Refusals.{refusalNumber, refusalIndex};
@@ -9,7 +9,7 @@ ghost use Rattle.bus.specs.Plain.{blank};
 ghost use Rattle.bus.specs.Calls;
 ghost use Rattle.send.specs.Send;
 ghost use Rattle.image.specs.Image.{imaged, imageLen, IsImage};
-ghost use Rattle.jezynar.specs.Answers.{DoneImage, OpenedImage, ReceivedImage};
+ghost use Rattle.image.specs.Answers.{DoneImage, OpenedImage, ReceivedImage, LeftImage};
 ghost use Rattle.search_call.specs.Searches.{searchBy, Searches};
 ghost use Rattle.telegram_calls.specs.Telegrams.{Parses, telegramBy, Writes};
 use bus::Segment;
@@ -36,14 +36,20 @@ pub extern "C" fn segment_new(image: &mut [u8; IMAGE])
     image::write_image(fresh, image);
 }
 
+// The one image of the segment that the bytes mean, in their place.
+#[no_mangle]
+pub extern "C" fn segment_tidy(image: &mut [u8; IMAGE])
+    ensures { λ _. ⌜ IsImage (imaged (now (image .entry))) (now (image .exit)) ⌝ }
+{
+    image::tidy(image)
+}
+
 // Empties the queue alone.
 #[no_mangle]
 pub extern "C" fn segment_clear(image: &mut [u8; IMAGE])
-    ensures { λ _. ⌜ IsImage (Calls.clear (imaged (now (image .entry)))) (now (image .exit)) ⌝ }
+    ensures { λ _. ⌜ LeftImage (Calls.clear (imaged (now (image .entry)))) (now (image .entry)) (now (image .exit)) ⌝ }
 {
-    let s = image::read_image(image);
-    let cleared = bus::clear(s);
-    image::write_image(cleared, image);
+    segment_calls::clear(image)
 }
 
 // Sets the bus baud and empties the input. 10: no rate.
@@ -51,16 +57,8 @@ pub extern "C" fn segment_clear(image: &mut [u8; IMAGE])
 pub extern "C" fn segment_set_baud(image: &mut [u8; IMAGE], baud: u32) -> u32
     ensures { λ r. ⌜ DoneImage (Calls.changeBaud baud (imaged (now (image .entry)))) r (now (image .entry)) (now (image .exit)) ⌝ }
 {
-    let s = image::read_image(image);
-    let done = bus::set_baud(s, baud);
-    let answer = done.answer;
-    let number = bus::changing_number(answer);
-    if number != 0 {
-        return number;
-    }
-    let t = done.segment;
-    image::write_image(t, image);
-    0
+    let answer = segment_calls::set_baud(image, baud);
+    segment_calls::changing_number(answer)
 }
 
 // number + 256 * index
@@ -82,18 +80,10 @@ pub extern "C" fn segment_open(
     practice: bool,
     origin: f64,
 ) -> u32
-    ensures { λ r. ⌜ OpenedImage (now (list .entry)) baud practice origin r (now (image .entry)) (now (image .exit)) ⌝ }
+    ensures { λ r. ⌜ OpenedImage (now (list .entry)) baud practice origin (r % 256) (r / 256) (now (image .entry)) (now (image .exit)) ⌝ }
 {
-    let s = image::read_image(image);
-    let done = bus::open(s, list, baud, practice, origin);
-    let refusal = done.answer;
-    let answer = packed(refusal);
-    if answer != 0 {
-        return answer;
-    }
-    let t = done.segment;
-    image::write_image(t, image);
-    0
+    let refusal = segment_calls::open(image, list, baud, practice, origin);
+    packed(refusal)
 }
 
 // Sends a piece at a clock. 13: piece over 1,024; 14: a clock field out of range; 15: queue would pass 4,096.
@@ -110,7 +100,6 @@ pub extern "C" fn segment_send(
 ) -> u32
     ensures { λ r. ⌜ DoneImage (Send.send (now (piece .entry)) (record { now = secs; year = year; month = month; day = day; hour = hour; minute = minute }) (imaged (now (image .entry)))) r (now (image .entry)) (now (image .exit)) ⌝ }
 {
-    let s = image::read_image(image);
     let clock = Clock {
         now: secs,
         year: year,
@@ -119,27 +108,16 @@ pub extern "C" fn segment_send(
         hour: hour,
         minute: minute,
     };
-    let done = send::send(s, piece, clock);
-    let answer = done.answer;
-    let number = send::sending_number(answer);
-    if number != 0 {
-        return number;
-    }
-    let t = done.segment;
-    image::write_image(t, image);
-    0
+    let answer = send::send(image, piece, clock);
+    send::sending_number(answer)
 }
 
 // Hands out the least of 32, the lent length and the queued bytes.
 #[no_mangle]
 pub extern "C" fn segment_receive(image: &mut [u8; IMAGE], lent: &mut [u8]) -> usize
-    ensures { λ r. ⌜ ReceivedImage (Calls.receive (now (lent .entry)) (imaged (now (image .entry)))) r (now (lent .exit)) (now (image .exit)) ⌝ }
+    ensures { λ r. ⌜ ReceivedImage (Calls.receive (now (lent .entry)) (imaged (now (image .entry)))) r (now (lent .exit)) (now (image .entry)) (now (image .exit)) ⌝ }
 {
-    let s = image::read_image(image);
-    let done = bus::receive(s, lent);
-    let left = done.segment;
-    image::write_image(left, image);
-    done.count
+    segment_calls::receive(image, lent)
 }
 
 // ---- the search

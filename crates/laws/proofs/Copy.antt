@@ -7,7 +7,7 @@ use native.Mathlib.Nat.{zero-add, min-zero, zero-min, suc-min-suc}
 use native.Mathlib.Numerals.{add-one}
 use native.Mathlib.Omega.{arith}
 use lib.ListN.{length, take, drop, set, getD, length-drop}
-use lib.Seq.{paste, paste-zero, paste-suc, take-paste, drop-paste, take-length, getD-drop, take-add, drop-at, length-take-le}
+use lib.Seq.{paste, paste-zero, paste-suc, take-paste, drop-paste, getD-drop, take-add, drop-at, length-take-le}
 
 pub record Copied {A : Type 0} (d : List A) (at : ℕ) (s : List A) (j : ℕ) (l : List A) : Type 0 where
   pub is : l ≡ paste d at s j
@@ -24,9 +24,6 @@ module _ {A : Type 0} {d : List A} {at : ℕ} {s : List A} where
     pub copied-first : Copied d at s j l → at ≤ length d → j ≤ length s → take (at + j) l ≡ take at d ++ take j s
     copied-first c h k = rw (c .is) (take-paste d at s j h k)
 
-    pub copied-whole : Copied d at s j l → at ≤ length d → j ≡ length s → take (at + j) l ≡ take at d ++ s
-    copied-whole c h e = copied-first c h (omega arith) ∙ ap (λ (n : ℕ). take at d ++ take n s) e ∙ ap (λ (r : List A). take at d ++ r) (take-length s)
-
     -- past what is copied, d is as it was
     pub copied-past : Copied d at s j l → (k : ℕ) (z : A) → at ≤ length d → j ≤ length s → at + j ≤ k → getD l k z ≡ getD d k z
     copied-past c k z h m q =
@@ -41,32 +38,6 @@ module _ {A : Type 0} where
   pub drop-take : (k n : ℕ) (d : List A) → k ≤ length d → drop k (take (k + n) d) ≡ take n (drop k d)
   drop-take k n d h = ap (drop k) (take-add k n d) ∙ drop-at (take k d) (take n (drop k d)) k (length-take-le k d h)
 
--- d is copied down by k places within itself: the invariant, a turn, and the end
-pub record Shifted {A : Type 0} (d : List A) (k j : ℕ) (l : List A) : Type 0 where
-  pub copied : Copied d 0 (drop k d) j l
-
-module _ {A : Type 0} {d : List A} {k : ℕ} where
-  pub shifted-none : Shifted d k 0 d
-  shifted-none = record { copied = copied-none }
-
-  module _ {j : ℕ} {l : List A} (c : Shifted d k j l) where
-    pub shifted-more : {v : A} (z : A) → k + j < length d → v ≡ getD l (k + j) z → Shifted d k (j + 1) (set l j v)
-    shifted-more z h e =
-        let m : j < length (drop k d) = rw length-drop (omega arith) in
-        record {
-          copied =
-              copied-more z (c .copied) (omega arith) (omega arith) m
-              (e ∙ copied-past (c .copied) (k + j) z (omega arith) (omega arith) (omega arith) ∙ sym (getD-drop k d j z));
-        }
-
-    pub shifted-all : (m n : ℕ) → m ≡ j → n ≡ k + j → n ≤ length d → take m l ≡ drop k (take n d)
-    shifted-all m n f e h =
-        let q : j ≤ length (drop k d) = rw length-drop (omega arith) in
-        let g : m ≡ 0 + j = omega arith in
-        ap (λ (x : ℕ). take x l) g
-        ∙ copied-first (c .copied) (omega arith) q
-        ∙ sym (ap (λ (x : ℕ). drop k (take x d)) e ∙ drop-take k j d (omega arith))
-
 module _ {A : Type 0} where
   -- a count past the end means all
   pub take-min : (n : ℕ) (xs : List A) → take (min n (length xs)) xs ≡ take n xs
@@ -78,7 +49,7 @@ module _ {A : Type 0} where
   pub copied-front : {d s l : List A} {j : ℕ} → Copied d 0 s j l → l ≡ take j s ++ drop j d
   copied-front {d} {s} {l} {j} c = c .is ∙ ap (λ (k : ℕ). take j s ++ drop k d) (zero-add j)
 
-  drop-min : (n : ℕ) (xs : List A) → drop (min n (length xs)) xs ≡ drop n xs
+  pub drop-min : (n : ℕ) (xs : List A) → drop (min n (length xs)) xs ≡ drop n xs
   drop-min zero xs = rw zero-min
   drop-min (suc n) [] = rw min-zero
   drop-min (suc n) (x ∷ xs) = rw suc-min-suc (drop-min n xs)

@@ -4,7 +4,7 @@ use mathlib.Core.Bool.{Bool, true, false, cond, _&&_}
 use mathlib.Core.List.{List, [], _∷_, _++_, map}
 use Prim.Native.Nat.{ℕ, zero, suc, _+_, _-_, _≤_, zero-le}
 use native.Mathlib.Omega.{arith}
-use lib.ListN.{length, take, drop, set, getD, length-drop}
+use lib.ListN.{length, take, drop, getD, length-drop}
 use lib.Seq.{take-all}
 use Rattle.laws.specs.Words.{if_then_else_, keep, Every}
 
@@ -129,11 +129,6 @@ pub and-both : (a b : Bool) → a ≡ true → b ≡ true → a && b ≡ true
 and-both a b p q = rw (p, q)
 
 module _ {A B : Type 0} (f : A → B) where
-  pub map-set : (xs : List A) (i : ℕ) (v : A) → map f (set xs i v) ≡ set (map f xs) i (f v)
-  map-set [] i v = refl
-  map-set (x ∷ xs) zero v = refl
-  map-set (x ∷ xs) (suc i) v = ap (λ (r : List B). f x ∷ r) (map-set xs i v)
-
   pub map-take : (n : ℕ) (xs : List A) → map f (take n xs) ≡ take n (map f xs)
   map-take zero xs = refl
   map-take (suc n) [] = refl

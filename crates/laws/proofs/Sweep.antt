@@ -2,8 +2,8 @@
 -- xs is the array where the loop began, ms as it is now; s₀ and s are the state then and now.
 use mathlib.Core.Path.{_≡_, refl, sym, ap, _∙_}
 use mathlib.Core.List.{List, [], _∷_, map}
-use Prim.Native.Nat.{ℕ, zero, suc, _+_, _≤_, _<_, min}
-use native.Mathlib.Nat.{le-of-suc-le-suc, not-suc-le-zero, min-zero, zero-min, suc-min-suc}
+use Prim.Native.Nat.{ℕ, zero, suc, _+_, _≤_, _<_}
+use native.Mathlib.Nat.{le-of-suc-le-suc, not-suc-le-zero}
 use native.Mathlib.Numerals.{add-one}
 use lib.ListN.{length, take, set, getD, length-map}
 use lib.Seq.{take-all}
@@ -19,18 +19,6 @@ module _ {A : Type 0} (f : A → A) where
   set-swept [] i d h = absurd (not-suc-le-zero h)
   set-swept (x ∷ xs) zero d h = refl
   set-swept (x ∷ xs) (suc i) d h = ap (λ (r : List A). f x ∷ r) (set-swept xs i d (le-of-suc-le-suc h))
-
-  pub swept-min : (n : ℕ) (xs : List A) → swept f (min n (length xs)) xs ≡ swept f n xs
-  swept-min zero xs = rw zero-min
-  swept-min (suc n) [] = rw min-zero
-  swept-min (suc n) (x ∷ xs) = rw suc-min-suc (ap (λ (r : List A). f x ∷ r) (swept-min n xs))
-
-module _ {A : Type 0} where
-  -- of the first k, all are replaced
-  pub take-swept : (f : A → A) (k : ℕ) (xs : List A) → take k (swept f k xs) ≡ map f (take k xs)
-  take-swept f zero xs = refl
-  take-swept f (suc k) [] = refl
-  take-swept f (suc k) (x ∷ xs) = ap (λ (r : List A). f x ∷ r) (take-swept f k xs)
 
 module _ {A S : Type 0} (g : S → A → S) where
   fold-suc : (s : S) (xs : List A) (i : ℕ) (d : A) → i < length xs → fold g s (take (suc i) xs) ≡ g (fold g s (take i xs)) (getD xs i d)

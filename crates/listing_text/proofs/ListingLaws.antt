@@ -12,8 +12,9 @@ use Rattle.search.specs.Site.{site, october}
 use Rattle.clock.specs.declared.Clock.{Clock}
 use Rattle.scenarios.specs.Opening.{OpeningGives, openList, capacity}
 use Rattle.bus.specs.Plain.{Plain}
-use Rattle.bus.specs.View.{plainOf, Opens}
-use Rattle.bus.specs.declared.Opened.{Opened as Opening}
+use Rattle.bus.specs.View.{plainOf}
+use Rattle.segment_by_value.specs.View.{Opens}
+use Rattle.segment_by_value.specs.declared.Opened.{Opened as Opening}
 use Rattle.bus.specs.declared.Segment.{Segment}
 use Rattle.search.specs.declared.EntryRecord.{EntryRecord}
 use Rattle.search.specs.declared.Core.{Core}

@@ -24,7 +24,8 @@ use Rattle.fresh_meter.specs.Fresh.{otherThanBus, ownBaud, seedOf, fresh}
 use Rattle.bus.specs.Plain.{blank}
 use Rattle.bus.specs.Calls.{afterOpening}
 use Rattle.replies.specs.Replies.{joined}
-use Rattle.send.specs.Steps.{heardBy, handled, steps, settled}
+use Rattle.segment_telegram.specs.Handled.{heardBy, handled}
+use Rattle.send.specs.Steps.{steps, settled}
 use Rattle.send.specs.Send.{send}
 use Rattle.clock.specs.Fields.{goodClock}
 use Rattle.walk.specs.Walk.{maskDigits, mask, reading, ask, probe, good, idOf, entryOf, read, ten, walk, wholeWalk}

@@ -3,17 +3,17 @@ ghost use mathlib.Core.Path.{_≡_};
 ghost use Rattle.search.specs.Site.{october};
 ghost use Rattle.listing_text.specs.Listing.{listIn, Lists};
 ghost use Rattle.bus.specs.Plain.{blank};
-ghost use Rattle.bus.specs.View.{Opens};
+ghost use Rattle.segment_by_value.specs.View.{Opens};
 ghost use mathlib.Core.Bool.{false};
 ghost use lib.IntN.{pos};
 ghost use lib.Ieee.{fin};
 use bus::METERS;
-use bus::Opened;
 use bus::Segment;
 use clock::Clock;
 use laws::least;
 use report_text::TEXT;
 use report_text::Written;
+use segment_by_value::Opened;
 
 // Input past so many bytes is not read.
 const INPUT: usize = 65536;
@@ -37,7 +37,7 @@ fn open_list(input: &[u8]) -> Opened
 {
     let segment = Segment::new();
     let n = least(INPUT, input.len());
-    bus::open(segment, &input[..n], 2400, false, 0.0)
+    segment_by_value::open(segment, &input[..n], 2400, false, 0.0)
 }
 
 fn list_into(input: &[u8], lent: [u8; TEXT]) -> Written

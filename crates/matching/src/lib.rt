@@ -67,7 +67,7 @@ fn byte_fits(mask: u8, own: u8) -> bool
 }
 
 // The id alone against a select's bytes; fewer than eight match no meter.
-pub fn id_matches(id: u32, data: &[u8]) -> bool
+fn id_matches(id: u32, data: &[u8]) -> bool
     ensures { λ r. ⌜ r ≡ idMatches (now («data» .entry)) (digitsOf id) ⌝ }
 {
     if data.len() < 8 {

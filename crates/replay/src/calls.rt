@@ -10,7 +10,7 @@ use laws::least;
 
 // The number and the index of 01.
 fn open(segment: Segment, list: &[u8], baud: u32, practice: bool, origin: f64) -> Segment {
-    let opened = bus::open(segment, list, baud, practice, origin);
+    let opened = segment_by_value::open(segment, list, baud, practice, origin);
     let answer = opened.answer;
     print::text(b"open");
     print::next(print::wide8(refusals::refusal_number(answer)));
@@ -56,7 +56,7 @@ pub(crate) fn open_builtin(segment: Segment, arguments: &[u8]) -> Segment {
 
 // A piece behind its length.
 pub(crate) fn send(segment: Segment, clock: Clock, arguments: &[u8]) -> Segment {
-    let sent = send::send(segment, script::rest(arguments, 2), clock);
+    let sent = segment_by_value::send(segment, script::rest(arguments, 2), clock);
     let answer = sent.answer;
     print::text(b"send");
     print::next(send::sending_number(answer) as u64);
@@ -72,7 +72,7 @@ fn no_bytes() -> [u8; 64]
 
 // The bytes received, in hexadecimal.
 fn receive_into(segment: Segment, lent: &mut [u8]) -> Segment {
-    let received = bus::receive(segment, lent);
+    let received = segment_by_value::receive(segment, lent);
     print::text(b"receive");
     print::next(print::wide(received.count));
     print::blank();
@@ -91,14 +91,14 @@ pub(crate) fn receive(segment: Segment, arguments: &[u8]) -> Segment {
 pub(crate) fn clear(segment: Segment) -> Segment {
     print::text(b"clear");
     print::line();
-    bus::clear(segment)
+    segment_by_value::clear(segment)
 }
 
 pub(crate) fn set_baud(segment: Segment, arguments: &[u8]) -> Segment {
-    let changed = bus::set_baud(segment, script::long(arguments));
+    let changed = segment_by_value::set_baud(segment, script::long(arguments));
     let answer = changed.answer;
     print::text(b"baud");
-    print::next(bus::changing_number(answer) as u64);
+    print::next(segment_calls::changing_number(answer) as u64);
     print::line();
     changed.segment
 }

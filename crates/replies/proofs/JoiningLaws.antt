@@ -15,7 +15,7 @@ use Rattle.readout.specs.declared.Reply.{Reply}
 use Rattle.hear.specs.Hear.{E5}
 use Rattle.replies.specs.declared.Joining.{Joining}
 use Rattle.replies.specs.Replies.{isE5, allE5, endToEnd, longest, overlaid, places, joined}
-use Rattle.replies.specs.Joining.{replyMost, Joins, JoinsAck, JoinsReply, lengthKept, bytesKept, Overlays}
+use Rattle.replies.specs.Joining.{replyMost, Joins, JoinsAck, JoinsReply, bytesKept, Overlays}
 use Rattle.replies.proofs.JoinLaws.{length-places}
 use Rattle.replies.proofs.OverlayLaws.{overlays-none, overlays-more, and-FF, overlaid-small, overlaid-more, allE5-more, longest-more}
 
@@ -154,31 +154,9 @@ module _ {j : Joining} {bytes : List ℕ} (rs : List (List ℕ)) where
   pub joins-still : Joins rs j bytes → Joins (rs ++ []) j bytes
   joins-still s = subst (λ x. Joins x j bytes) (sym (append-nil rs)) s
 
--- what is kept, by whether all replies are E5
-module _ (j : Joining) (bytes : List ℕ) where
-  pub length-acks : j .acks ≡ true → lengthKept j ≡ j .count
-  length-acks e = ap (λ b. if b then j .count else j .len) e
-
-  pub length-and : j .acks ≡ false → lengthKept j ≡ j .len
-  length-and e = ap (λ b. if b then j .count else j .len) e
-
-  -- behind what was there
-  module _ (q : ℕ) (old new : List ℕ) where
-    pub put-acks : j .acks ≡ true → take (q + j .count) new ≡ take q old ++ replicate (j .count) 0xE5 → take (q + lengthKept j) new ≡ take q old ++ bytesKept j bytes
-    put-acks e h = go (j .acks) e h
-      where
-        go : (b : Bool) → b ≡ true → take (q + j .count) new ≡ take q old ++ replicate (j .count) 0xE5
-            → take (q + (if b then j .count else j .len)) new ≡ take q old ++ (if b then replicate (j .count) 0xE5 else take (j .len) bytes)
-        go true e h = h
-        go false e h = let z : _≡_ {A = ℕ} 0 1 = cc in absurd (omega arith)
-
-    pub put-and : j .acks ≡ false → take (q + j .len) new ≡ take q old ++ take (j .len) bytes → take (q + lengthKept j) new ≡ take q old ++ bytesKept j bytes
-    put-and e h = go (j .acks) e h
-      where
-        go : (b : Bool) → b ≡ false → take (q + j .len) new ≡ take q old ++ take (j .len) bytes
-            → take (q + (if b then j .count else j .len)) new ≡ take q old ++ (if b then replicate (j .count) 0xE5 else take (j .len) bytes)
-        go false e h = h
-        go true e h = let z : _≡_ {A = ℕ} 0 1 = cc in absurd (omega arith)
+-- how long the joined reply is
+abbrev pub lengthKept : Joining → ℕ
+lengthKept j = if j .acks then j .count else j .len
 
 module _ {rs : List (List ℕ)} {j : Joining} {bytes : List ℕ} where
   pub length-kept : Joins rs j bytes → length (bytesKept j bytes) ≡ lengthKept j

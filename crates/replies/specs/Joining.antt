@@ -24,10 +24,7 @@ pub record Joins (rs : List (List ℕ)) (j : Joining) (bytes : List ℕ) : Type 
   pub small : Every Bytes rs
   pub and : (i : ℕ) → i < replyMost → getD bytes i 0xFF ≡ overlaid rs i
 
--- how long the joined reply is, and its bytes: all E5, end to end; else the AND
-abbrev pub lengthKept : Joining → ℕ
-lengthKept j = if j .acks then j .count else j .len
-
+-- the bytes of the joined reply: all E5, end to end; else the AND
 abbrev pub bytesKept : Joining → List ℕ → List ℕ
 bytesKept j bytes = if j .acks then replicate (j .count) 0xE5 else take (j .len) bytes
 

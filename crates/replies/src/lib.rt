@@ -3,7 +3,7 @@ ghost use mathlib.Core.Path.{_≡_};
 ghost use Prim.Native.Nat.{_≤_, max};
 ghost use lib.ListN.{length, take, replicate};
 ghost use Rattle.replies.specs.Replies.{isE5};
-ghost use Rattle.replies.specs.Joining.{JoinsAck, JoinsReply, Overlays, replyMost, lengthKept};
+ghost use Rattle.replies.specs.Joining.{JoinsAck, JoinsReply, Overlays, replyMost};
 use laws::least;
 use readout::Reply;
 
@@ -74,14 +74,4 @@ pub fn join(joined: &mut [u8; REPLY], kept: Joining, reply: Reply) -> Joining
         acks: kept.acks & is_ack(reply),
         len: most(kept.len, len),
     }
-}
-
-// How long the joined reply is.
-pub fn length_of(kept: Joining) -> usize
-    ensures { λ r. ⌜ r ≡ lengthKept kept ⌝ }
-{
-    if kept.acks {
-        return kept.count;
-    }
-    kept.len
 }

@@ -25,9 +25,9 @@ use Rattle.refusals.specs.declared.Refusal.{Refusal}
 use Rattle.refusals.specs.declared.Refusal.the-variants.{Accepted, AtRecord}
 use Rattle.scenarios.specs.declared.Meters.{Meters}
 
-pub none-is : (r : Refusal) {m : Meter} → m ≡ spare → _≡_ {A = Meters} (record { refusal = r; meters = replicate mostMeters m; count = 0 }) (noMeters r)
+pub none-is : (r : Refusal) {ms : List Meter} → ms ≡ replicate mostMeters spare → _≡_ {A = Meters} (record { refusal = r; meters = ms; count = 0 }) (noMeters r)
 unfolding noMeters
-none-is r e = ap (λ (m : Meter). record { refusal = r; meters = replicate mostMeters m; count = 0 }) e
+none-is r e = ap (λ (ms : List Meter). record { refusal = r; meters = ms; count = 0 }) e
 
 -- ---- one step of the reader
 

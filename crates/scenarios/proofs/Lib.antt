@@ -1,8 +1,10 @@
+pub mod BringLaws
 pub mod FoldLaws
 pub mod GatherLaws
 pub mod GivenLaws
 pub mod Opened
 pub mod OpeningLaws
 pub mod Refusals
+pub mod StoreItem
 pub mod TakeInLaws
 pub mod WriteLaws

@@ -1,10 +1,11 @@
--- What the program makes of the list's records, one after another: its meters, or the first record that fails. That it comes to 01's opening is proved
--- (proofs/GivenLaws).
+-- What the program makes of the list's records, one after another: its meters, or the first record that fails; first as a fold over the records, then with each meter
+-- stored in its place, as the loop does it. That it comes to 01's opening is proved (proofs/GivenLaws).
+use mathlib.Core.Path.{_≡_}
 use mathlib.Core.Bool.{Bool, false}
 use mathlib.Core.List.{List}
-use Prim.Native.Nat.{ℕ, zero, suc, _+_}
+use Prim.Native.Nat.{ℕ, zero, suc, _+_, _≤_}
 use lib.Dec.{ltb}
-use lib.ListN.{set, replicate}
+use lib.ListN.{getD, set, replicate}
 use Rattle.scenarios.specs.Opening.{mostMeters}
 use Rattle.laws.specs.Words.{if_then_else_}
 use Rattle.meter.specs.declared.Fault.the-variants.{None}
@@ -22,6 +23,8 @@ use Rattle.refusals.specs.declared.Refusal.{Refusal}
 use Rattle.refusals.specs.declared.Refusal.the-variants.{Accepted, AtRecord}
 use Rattle.refusals.specs.Refusals.{isAccepted}
 use Rattle.scenarios.specs.declared.Meters.{Meters}
+use Rattle.scenarios.specs.declared.opening.Progress.{Progress}
+use Rattle.scenarios.specs.declared.opening.Brought.{Brought}
 
 -- what stands in the places that hold no meter
 unfoldable pub spare : Meter
@@ -76,3 +79,23 @@ gathered s bus practice (suc k) = admitted s bus practice (gathered s bus practi
 -- after as many steps as there may be meters
 unfoldable pub gatheredOf : List ℕ → ℕ → Bool → Meters
 gatheredOf s bus practice = gathered s bus practice mostMeters
+
+-- ---- the same with each meter stored in its place
+
+-- the meters that are stored in ms so far; none once a record has failed
+unfoldable pub gatheredIn : List Meter → Progress → Meters
+gatheredIn ms p = if isAccepted (p .refusal) then record { refusal = p .refusal; meters = ms; count = p .count } else noMeters (p .refusal)
+
+-- no meter more
+unfoldable pub nothingMore : Progress → Brought
+nothingMore p = record { meter = spare; progress = p }
+
+-- the places from n on hold no meter
+abbrev pub Spares : List Meter → ℕ → Type 0
+Spares ms n = (k : ℕ) → n ≤ k → getD ms k spare ≡ spare
+
+-- what a step of the reader brings: stored at the place of the count, its meter makes of the meters so far those of one step more; the places past them still hold none
+pub record Brings (s : List ℕ) (bus : ℕ) (practice : Bool) (p : Progress) (t : Step) (b : Brought) : Type 0 where
+  pub admits : (ms : List Meter) → Spares ms (p .count) → gatheredIn (set ms (p .count) (b .meter)) (b .progress) ≡ admitted s bus practice (gatheredIn ms p) t
+  pub spares : (ms : List Meter) → Spares ms (p .count) → Spares (set ms (p .count) (b .meter)) (b .progress .count)
+  pub most : b .progress .count ≤ p .count + 1

@@ -6,9 +6,11 @@ use meter_list::Shape;
 use meter_list::layout::layout;
 use meter_list::new;
 use meter_list::next;
-use opening::admit;
-use opening::begin;
+use opening::Progress;
+use opening::bring;
+use opening::finished;
 use opening::no_meters;
+use opening::spare_meters;
 use refusals::Refusal;
 use refusals::is_accepted;
 use rules::tables::is_rate;
@@ -26,20 +28,27 @@ pub struct Meters {
     pub count: usize,
 }
 
-// The list's meters, one after another: as many steps of the reader as there may be meters.
+// The list's meters, each stored in its place: as many steps of the reader as there may be meters.
 fn gather(list: &[u8], bus: u32, practice: bool) -> Meters
     ensures { λ r. ⌜ r ≡ gatheredOf (now (list .entry)) bus practice ⌝ }
 {
     let mut r = new(list);
-    let mut acc = begin();
+    let mut meters = spare_meters();
+    let mut progress = Progress {
+        refusal: Refusal::Accepted,
+        count: 0,
+    };
     let mut i: usize = 0;
     while i < METERS {
         let s = next(r);
         r = s.reader;
-        acc = admit(list, bus, practice, acc, s.step);
+        let b = bring(list, bus, practice, progress, s.step);
+        // Without a test: where no meter is brought, it is a spare one, and the place holds a spare one already.
+        meters[progress.count] = b.meter;
+        progress = b.progress;
         i = i + 1;
     }
-    acc
+    finished(meters, progress)
 }
 
 // A list opened at a baud: 1, 2 and 3 by the whole layout, then the records' 4 to 9, then 10.

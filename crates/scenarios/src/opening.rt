@@ -1,6 +1,8 @@
 // Meters gathered one after another, from none on.
 ghost use mathlib.Core.Path.{_≡_};
-ghost use Rattle.scenarios.specs.Gather.{spare, noMeters, admitted};
+ghost use lib.ListN.{replicate};
+ghost use Rattle.scenarios.specs.Opening.{mostMeters};
+ghost use Rattle.scenarios.specs.Gather.{spare, noMeters, gatheredIn, nothingMore, Brings};
 use super::METERS;
 use super::Meters;
 use fresh_meter::fresh;
@@ -13,6 +15,18 @@ use refusals::Refusal;
 use refusals::is_accepted;
 use rules::Checked;
 use rules::check::check;
+
+// How far an opening has come: the meters stored, and what the first failing record refuses it with.
+pub(crate) struct Progress {
+    pub refusal: Refusal,
+    pub count: usize,
+}
+
+// What a step of the reader brings: the meter for the place of the count, and the progress after it.
+pub(crate) struct Brought {
+    pub meter: Meter,
+    pub progress: Progress,
+}
 
 // What stands in the places that hold no meter.
 fn spare_meter() -> Meter
@@ -37,12 +51,19 @@ fn spare_meter() -> Meter
     }
 }
 
+// A place for each meter, and no meter yet.
+pub(crate) fn spare_meters() -> [Meter; METERS]
+    ensures { λ r. ⌜ r ≡ replicate mostMeters spare ⌝ }
+{
+    let m = spare_meter();
+    [m; METERS]
+}
+
 // No meters, and why.
 pub(crate) fn no_meters(refusal: Refusal) -> Meters
     ensures { λ r. ⌜ r ≡ noMeters refusal ⌝ }
 {
-    let m = spare_meter();
-    let ms = [m; METERS];
+    let ms = spare_meters();
     Meters {
         refusal: refusal,
         meters: ms,
@@ -57,32 +78,75 @@ pub fn begin() -> Meters
     no_meters(Refusal::Accepted)
 }
 
-// One step of the reader more. The first record that fails refuses the opening.
-pub(crate) fn admit(list: &[u8], bus: u32, practice: bool, acc: Meters, step: Step) -> Meters
-    ensures { λ r. ⌜ r ≡ admitted (now (list .entry)) bus practice acc step ⌝ }
+// No meter more: a spare one for the place of the count, which stays spare.
+fn nothing_more(progress: Progress) -> Brought
+    ensures { λ r. ⌜ r ≡ nothingMore progress ⌝ }
 {
-    let mut a = acc;
+    let m = spare_meter();
+    Brought {
+        meter: m,
+        progress: progress,
+    }
+}
+
+// One step of the reader more. The first record that fails refuses the opening.
+pub(crate) fn bring(
+    list: &[u8],
+    bus: u32,
+    practice: bool,
+    progress: Progress,
+    step: Step,
+) -> Brought
+    ensures { λ r. ⌜ Brings (now (list .entry)) bus practice progress step r ⌝ }
+{
     match step {
         Step::Record(r, _) => {
-            let refusal = a.refusal;
+            let refusal = progress.refusal;
             if is_accepted(refusal) {
-                let k = a.count;
+                let k = progress.count;
                 match check(list, r) {
                     Checked::Passes(v) => {
                         if k < METERS {
                             let m = fresh(v, bus, practice);
-                            a.meters[k] = m;
-                            a.count = k + 1;
+                            let count = k + 1;
+                            let next = Progress {
+                                refusal: refusal,
+                                count: count,
+                            };
+                            return Brought {
+                                meter: m,
+                                progress: next,
+                            };
                         }
+                        return nothing_more(progress);
                     }
                     Checked::Fails(f) => {
-                        return no_meters(Refusal::AtRecord(f, k));
+                        let refused = Progress {
+                            refusal: Refusal::AtRecord(f, k),
+                            count: k,
+                        };
+                        return nothing_more(refused);
                     }
                 }
             }
+            nothing_more(progress)
         }
-        Step::Bad => {}
-        Step::End => {}
+        Step::Bad => nothing_more(progress),
+        Step::End => nothing_more(progress),
     }
-    a
+}
+
+// The meters stored, or none where a record failed.
+pub(crate) fn finished(meters: [Meter; METERS], progress: Progress) -> Meters
+    ensures { λ r. ⌜ r ≡ gatheredIn meters progress ⌝ }
+{
+    let refusal = progress.refusal;
+    if is_accepted(refusal) {
+        return Meters {
+            refusal: refusal,
+            meters: meters,
+            count: progress.count,
+        };
+    }
+    no_meters(refusal)
 }

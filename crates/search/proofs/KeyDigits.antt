@@ -37,6 +37,11 @@ key-digits n h =
     let d6 = ap (λ x. x * 16 + n / 0x10 % 16) d5 ∙ back (n / 0x100) (n / 0x10) (c .0) in
     ap (λ x. x * 16 + n % 16) d6 ∙ back (n / 0x10) n refl
 
+-- the number that an id's digits are
+pub id-key : (n : ℕ) → n < 0x100000000 → inBase 16 (digitsOf n) ≡ n
+unfolding inBase
+id-key n h = key-digits n h
+
 pub digits-eight : (n : ℕ) → length (digitsOf n) ≡ 8
 unfolding digitsOf
 digits-eight n = refl

@@ -16,6 +16,6 @@ pub mod PackedWalk
 pub mod PackLaws
 pub mod PackStart
 pub mod MadeLaws
-pub mod CoreLaws
+pub mod SearchInLaws
 pub mod Filled
 mod SearchCalls

@@ -1,24 +1,32 @@
 -- Packing and unpacking: the loops, and the small choices.
-use mathlib.Core.Path.{_≡_, refl, sym, ap, _∙_, subst}
+use mathlib.Core.Path.{_≡_, refl, sym, ap, ap₂, _∙_, subst}
 use mathlib.Core.List.{List, [], _∷_, _++_, map}
 use Prim.Native.Nat.{ℕ, zero, suc, _+_, _*_, _/_, _%_, _≤_, _<_}
 use native.Mathlib.Nat.{le-of-suc-le-suc, not-suc-le-zero}
 use native.Mathlib.Numerals.{add-one}
 use native.Mathlib.Omega.{arith}
 use borrow.Author.Tests.{eq-eqb, ne-eqb}
-use lib.ListN.{length, take, drop, set, getD, List·getD-map, length-map}
-use Rattle.laws.proofs.Lists.{map-set, map-take}
+use lib.ListN.{length, take, drop, set, getD, replicate, List·getD-map, length-map}
+use lib.Seq.{take-all}
+use Rattle.laws.proofs.Lists.{map-take}
 use Rattle.laws.specs.Words.{Every, bitIf}
+use Rattle.identity.specs.Identity.{digitsOf}
 use Rattle.laws.proofs.Copy.{Copied, copied-none, copied-more, copied-first, copied-front}
 use Rattle.meter.specs.PlainMeter.{PlainMeter}
 use Rattle.meter.specs.Meter.{with}
 use Rattle.meter.specs.View.{plainMeter}
 use Rattle.meter.specs.declared.Meter.{Meter}
 use Rattle.meter.specs.declared.LastFcb.{LastFcb}
-use Rattle.packed.specs.Marks.{sweptBy}
+use Rattle.scenarios.specs.Opening.{capacity}
+use Rattle.bus.specs.Plain.{Plain, withMeters}
+use Rattle.image.specs.Image.{imaged}
+use Rattle.segment_places.specs.Becomes.{meterIn, Becomes}
+use Rattle.segment_places.proofs.Becoming.{becomes-same, becomes-as, becomes-then}
+use Rattle.segment_places.proofs.PlaceLaws.{meter-at}
 use Rattle.packed.proofs.MarkSweep.{Sweep, sweep-none, sweep-more, sweep-all}
 use Rattle.search.specs.declared.Kind.the-variants.{Many}
-use Rattle.search.specs.Packing.{faultBits, markOf, on, lastIn, partIn, asMarked, seenAs, seenBy, kindIn, countIn}
+use Rattle.search.specs.Packing.{faultBits, markOf, Bounded, packed, on, lastIn, partIn, asMarked, seenAs, seenBy, unmarked, kindIn, countIn}
+use Rattle.search.proofs.KeyDigits.{id-key}
 
 -- ---- a front number
 
@@ -46,16 +54,13 @@ module _ {A B : Type 0} {f : A → B} {d : List B} {xs : List A} where
     mapped-more z h k e =
         record { copied = copied-more (f z) (c .copied) (omega arith) (omega arith) (omega (arith, length-map xs f)) (e ∙ sym (List·getD-map f xs i z)) }
 
-    pub mapped-all : (n : ℕ) → i ≡ n → l ≡ take n (map f xs) ++ drop n d
-    mapped-all n e = copied-front (c .copied) ∙ ap (λ (j : ℕ). take j (map f xs) ++ drop j d) e
-
     pub mapped-first : (n : ℕ) → i ≡ n → i ≤ length xs → take n l ≡ map f (take n xs)
     mapped-first n e h =
         let g : n ≡ 0 + i = omega arith in
         ap (λ (j : ℕ). take j l) g ∙ copied-first (c .copied) (omega arith) (omega (arith, length-map xs f)) ∙ ap (λ (j : ℕ). take j (map f xs)) e ∙ sym (map-take f n xs)
 
 module _ {A : Type 0} (P : A → Type 0) where
-  pub every-more : (xs : List A) (i : ℕ) (z : A) → i < length xs → Every P (take i xs) → P (getD xs i z) → Every P (take (i + 1) xs)
+  every-more : (xs : List A) (i : ℕ) (z : A) → i < length xs → Every P (take i xs) → P (getD xs i z) → Every P (take (i + 1) xs)
   every-more xs i z h q p = rw add-one (go xs i h q p)
     where
       go : (xs : List A) (i : ℕ) → i < length xs → Every P (take i xs) → P (getD xs i z) → Every P (take (suc i) xs)
@@ -63,29 +68,67 @@ module _ {A : Type 0} (P : A → Type 0) where
       go (x ∷ xs) zero h q p = (p, tt)
       go (x ∷ xs) (suc i) h q p = (q .0, go xs i (le-of-suc-le-suc h) (q .1) p)
 
--- the first i meters are as their marks have them
-pub record Unmarked (bus : ℕ) (marks : List ℕ) (xs : List Meter) (i : ℕ) (ms : List Meter) : Type 0 where
-  pub sweep : Sweep (seenBy bus) (λ a s m. a) 0 marks (map plainMeter xs) i (map plainMeter ms) 0
+-- ---- the meters of an image
 
-module _ {bus : ℕ} {marks : List ℕ} {xs : List Meter} where
-  pub unmarked-none : Unmarked bus marks xs 0 xs
-  unmarked-none = record { sweep = sweep-none }
+-- a meter that was read is the one that stands there
+read-there : (l : List ℕ) (i : ℕ) (m : Meter) → i < length (imaged l .meters) → plainMeter m ≡ meterIn i l → plainMeter m ≡ getD (imaged l .meters) i (plainMeter m)
+read-there l i m h e = e ∙ sym (meter-at l i (plainMeter m) h)
 
-  pub unmarked-more : {i : ℕ} {ms : List Meter} (k z : Meter) → Unmarked bus marks xs i ms → i < length marks → i < length xs
-      → plainMeter k ≡ seenAs bus (plainMeter (getD ms i z)) (getD marks i 0) → Unmarked bus marks xs (i + 1) (set ms i k)
-  unmarked-more {i} {ms} k z u h l e =
-      record {
-        sweep = subst (λ (r : List PlainMeter). Sweep (seenBy bus) (λ a s m. a) 0 marks (map plainMeter xs) (i + 1) r 0) (sym (map-set plainMeter ms i k))
-            (sweep-more 0 (plainMeter z) (u .sweep) h (omega (arith, length-map xs plainMeter)) (e ∙ ap (λ m. seenAs bus m (getD marks i 0)) (sym (List·getD-map plainMeter ms i z))) refl);
-      }
+module _ (l : List ℕ) where
+  module _ {i : ℕ} {f : PlainMeter → ℕ} {d ks : List ℕ} (c : Mapped f d (imaged l .meters) i ks) where
+    pub packed-more : {v : ℕ} (m : Meter) → i < length d → i < length (imaged l .meters) → plainMeter m ≡ meterIn i l → v ≡ f (plainMeter m) → Mapped f d (imaged l .meters) (i + 1) (set ks i v)
+    packed-more m h n e g = mapped-more c (plainMeter m) h n (g ∙ ap f (read-there l i m n e))
 
-  pub unmarked-all : {i : ℕ} {ms : List Meter} (n : ℕ) → Unmarked bus marks xs i ms → i ≡ n → map plainMeter ms ≡ sweptBy (seenBy bus) n marks (map plainMeter xs)
-  unmarked-all n u e = sweep-all n (u .sweep) e .0
+    pub packed-all : i ≡ length (imaged l .meters) → d ≡ replicate capacity 0 → ks ≡ packed f (imaged l .meters)
+    unfolding packed
+    packed-all e z =
+        let xs = imaged l .meters in
+        copied-front (c .copied) ∙ ap (λ (j : ℕ). take j (map f xs) ++ drop j d) e
+        ∙ ap₂ (λ x y. x ++ drop (length xs) y) (take-all (length xs) (map f xs) (omega (arith, length-map xs f))) z
+
+  module _ (P : PlainMeter → Type 0) (i : ℕ) (q : Every P (take i (imaged l .meters))) where
+    pub read-more : (m : Meter) → i < length (imaged l .meters) → plainMeter m ≡ meterIn i l → P (plainMeter m) → Every P (take (i + 1) (imaged l .meters))
+    read-more m h e p = every-more P (imaged l .meters) i (plainMeter m) h q (subst P (read-there l i m h e) p)
+
+    pub read-all : i ≡ length (imaged l .meters) → Every P (imaged l .meters)
+    read-all e = subst (Every P) (take-all i (imaged l .meters) (omega arith)) q
+
+-- what the program's types say
+pub meter-bounded : (m : Meter) → m .id < 0x100000000 → m .access < 256 → m .readouts < 256 → Bounded (plainMeter m)
+meter-bounded m h a r =
+    let e = id-key (m .id) h in
+    record { key = omega (arith, e); digits = ap digitsOf (sym e); access = a; readouts = r }
+
+-- the first i meters are as their marks have them, and all else is as it was
+pub record Unmarked (marks old : List ℕ) (i : ℕ) (new : List ℕ) : Type 0 where
+  pub sweep : Sweep (seenBy (imaged old .baud)) (λ a s m. a) 0 marks (imaged old .meters) i (imaged new .meters) 0
+  pub becomes : Becomes old (withMeters (imaged new .meters) (imaged old)) new
+
+module _ {marks old : List ℕ} where
+  pub unmarked-none : Unmarked marks old 0 old
+  unmarked-none = record { sweep = sweep-none; becomes = becomes-same }
+
+  module _ {i : ℕ} {new : List ℕ} (u : Unmarked marks old i new) where
+    pub unmarked-more : {next : List ℕ} (m k : Meter) → i < length marks → i < length (imaged old .meters) → plainMeter m ≡ meterIn i new
+        → plainMeter k ≡ seenAs (imaged old .baud) (plainMeter m) (getD marks i 0)
+        → Becomes new (withMeters (set (imaged new .meters) i (plainMeter k)) (imaged new)) next
+        → Unmarked marks old (i + 1) next
+    unmarked-more {next} m k h l e f b =
+        let n : i < length (imaged new .meters) = omega (arith, sweep-all i (u .sweep) refl .2) in
+        let after : imaged next .meters ≡ set (imaged new .meters) i (plainMeter k) = ap (λ (s : Plain). s .meters) (b .means) in
+        record {
+          sweep = subst (λ ms. Sweep (seenBy (imaged old .baud)) (λ a s m. a) 0 marks (imaged old .meters) (i + 1) ms 0) (sym after)
+              (sweep-more 0 (plainMeter m) (u .sweep) h l (f ∙ ap (λ x. seenAs (imaged old .baud) x (getD marks i 0)) (read-there new i m n e)) refl);
+          becomes = becomes-then (u .becomes) (becomes-as (ap₂ withMeters (sym after) (u .becomes .means)) b);
+        }
+
+    pub unmarked-all : i ≡ length (imaged old .meters) → Becomes old (unmarked marks (imaged old)) new
+    unmarked-all e = becomes-as (ap (λ ms. withMeters ms (imaged old)) (sweep-all (length (imaged old .meters)) (u .sweep) e .0)) (u .becomes)
 
 -- ---- the mark with which a search begins
 
-module _ (bus : ℕ) (m : Meter) where
-  pub mark-here : m .baud ≡ bus → (a b c : ℕ) → a ≡ bitIf (m .selected) → b ≡ bitIf (m .hearing) → c ≡ faultBits (m .fault)
+module _ (bus : ℕ) (m : PlainMeter) where
+  pub mark-here : m .baud ≡ bus → (a b c : ℕ) → a ≡ bitIf (m .selected) → b ≡ bitIf (m .hearsNext) → c ≡ faultBits (m .fault)
       → a + b * 4 + c + m .readouts * 256 + m .access * 65536 ≡ markOf bus m
   unfolding markOf
   mark-here h a b c ea eb ec = rw (eq-eqb (m .baud) bus h, ea, eb, ec)

@@ -5,11 +5,9 @@ use mathlib.Core.List.{List, [], _∷_, _++_, map}
 use Prim.Native.Nat.{ℕ, zero, suc, _+_, _*_, _/_, _%_, _≤_, _<_}
 use native.Mathlib.Omega.{arith}
 use lib.Dec.{eqb}
-use lib.ListN.{length, take, drop, replicate}
+use lib.ListN.{length, drop, replicate}
 use Rattle.laws.specs.Words.{if_then_else_, Every, bitIf}
 use Rattle.meter.specs.PlainMeter.{PlainMeter}
-use Rattle.meter.specs.View.{plainMeter}
-use Rattle.meter.specs.declared.Meter.{Meter}
 use Rattle.meter.specs.declared.Fault.{Fault}
 use Rattle.meter.specs.declared.Fault.the-variants.{None, Checksum, Truncated, Busy, WrongAddress, Flaky, TooMany}
 use Rattle.scenarios.specs.Opening.{capacity}
@@ -59,44 +57,44 @@ fault-bits WrongAddress = (refl, omega arith, record { steady = refl; flaky′ =
 fault-bits Flaky = (refl, omega arith, record { steady = refl; flaky′ = refl; never = refl; many = refl })
 fault-bits TooMany = (refl, omega arith, record { steady = refl; flaky′ = refl; never = refl; many = refl })
 
-module _ (bus : ℕ) (m : Meter) (z : Bounded m) where
-  here : eqb (m .baud) bus ≡ true → markOf bus m ≡ total (bitIf (m .selected)) (bitIf (m .hearing)) (faultBits (m .fault) / 16) (m .readouts) (m .access)
+module _ (bus : ℕ) (m : PlainMeter) (z : Bounded m) where
+  here : eqb (m .baud) bus ≡ true → markOf bus m ≡ total (bitIf (m .selected)) (bitIf (m .hearsNext)) (faultBits (m .fault) / 16) (m .readouts) (m .access)
   unfolding markOf
   here e =
-      ap (λ b. if b then bitIf (m .selected) + bitIf (m .hearing) * 4 + faultBits (m .fault) + m .readouts * 256 + m .access * 65536 else 0) e
-      ∙ ap (λ f. bitIf (m .selected) + bitIf (m .hearing) * 4 + f + m .readouts * 256 + m .access * 65536) (fault-bits (m .fault) .0)
+      ap (λ b. if b then bitIf (m .selected) + bitIf (m .hearsNext) * 4 + faultBits (m .fault) + m .readouts * 256 + m .access * 65536 else 0) e
+      ∙ ap (λ f. bitIf (m .selected) + bitIf (m .hearsNext) * 4 + f + m .readouts * 256 + m .access * 65536) (fault-bits (m .fault) .0)
 
   elsewhere : eqb (m .baud) bus ≡ false → markOf bus m ≡ 0
   unfolding markOf
-  elsewhere e = ap (λ b. if b then bitIf (m .selected) + bitIf (m .hearing) * 4 + faultBits (m .fault) + m .readouts * 256 + m .access * 65536 else 0) e
+  elsewhere e = ap (λ b. if b then bitIf (m .selected) + bitIf (m .hearsNext) * 4 + faultBits (m .fault) + m .readouts * 256 + m .access * 65536 else 0) e
 
   abbrev s : ℕ
   s = markOf bus m
 
   parts : eqb (m .baud) bus ≡ true
-      → (s % 2 ≡ bitIf (m .selected)) × (s / 2 % 2 ≡ 0) × (s / 4 % 2 ≡ bitIf (m .hearing)) × (s / 8 % 2 ≡ 0) × (s / 16 % 16 ≡ faultBits (m .fault) / 16) × (s / 256 % 256 ≡ m .readouts)
+      → (s % 2 ≡ bitIf (m .selected)) × (s / 2 % 2 ≡ 0) × (s / 4 % 2 ≡ bitIf (m .hearsNext)) × (s / 8 % 2 ≡ 0) × (s / 16 % 16 ≡ faultBits (m .fault) / 16) × (s / 256 % 256 ≡ m .readouts)
       × (s / 65536 % 256 ≡ m .access)
-  parts e = total-parts (bitIf (m .selected)) (bitIf (m .hearing)) (faultBits (m .fault) / 16) (m .readouts) (m .access) s (bit-small (bit-if (m .selected))) (bit-small (bit-if (m .hearing))) (fault-bits (m .fault) .1) (z .readouts) (z .access) (here e)
+  parts e = total-parts (bitIf (m .selected)) (bitIf (m .hearsNext)) (faultBits (m .fault) / 16) (m .readouts) (m .access) s (bit-small (bit-if (m .selected))) (bit-small (bit-if (m .hearsNext))) (fault-bits (m .fault) .1) (z .readouts) (z .access) (here e)
 
-  stands : eqb (m .baud) bus ≡ true → asMarked (plainMeter m) s ≡ plainMeter m
+  stands : eqb (m .baud) bus ≡ true → asMarked m s ≡ m
   unfolding asMarked
   stands e =
       let p = parts e in
-      λ i. stand (plainMeter m) ((ap on (p .0) ∙ bit-on (bit-if (m .selected))) i) (on (p .1 i)) ((ap on (p .2) ∙ bit-on (bit-if (m .hearing))) i) (on (p .3 i)) (p .6 i) (p .5 i)
+      λ i. stand m ((ap on (p .0) ∙ bit-on (bit-if (m .selected))) i) (on (p .1 i)) ((ap on (p .2) ∙ bit-on (bit-if (m .hearsNext))) i) (on (p .3 i)) (p .6 i) (p .5 i)
 
-  pub start-seen : seenAs bus (plainMeter m) s ≡ plainMeter m
+  pub start-seen : seenAs bus m s ≡ m
   unfolding seenAs
   start-seen = go (eqb (m .baud) bus) refl
     where
-      go : (b : Bool) → eqb (m .baud) bus ≡ b → (if b then asMarked (plainMeter m) s else plainMeter m) ≡ plainMeter m
+      go : (b : Bool) → eqb (m .baud) bus ≡ b → (if b then asMarked m s else m) ≡ m
       go true e = stands e
       go false e = refl
 
-  pub start-holds : Holds bus (plainMeter m) (m .id) s
+  pub start-holds : Holds bus m (keyOf m) s
   start-holds =
       record {
-        small = z .id;
-        digits = refl;
+        small = z .key;
+        digits = z .digits;
         bits = λ e. bits-kept (m .fault) (faultBits (m .fault)) s (parts e .4 ∙ nibble (faultBits (m .fault) / 16) (fault-bits (m .fault) .1)) (fault-bits (m .fault) .2);
         away = λ e. subst Silent (sym (elsewhere e)) silent-zero;
       }
@@ -106,40 +104,34 @@ module _ (bus : ℕ) (m : Meter) (z : Bounded m) where
 
 -- ---- all meters
 
-pub silent-zeros : (n m : ℕ) → Every Silent (drop n (replicate m 0))
+silent-zeros : (n m : ℕ) → Every Silent (drop n (replicate m 0))
 silent-zeros zero zero = tt
 silent-zeros zero (suc m) = (silent-zero, silent-zeros zero m)
 silent-zeros (suc n) zero = tt
 silent-zeros (suc n) (suc m) = silent-zeros n m
 
 module _ (bus : ℕ) where
-  all-start : (n : ℕ) (ms : List Meter) (ks zs : List ℕ) → Every Silent zs → Every Bounded (take n ms)
-      → AllHold bus (map plainMeter (take n ms)) (take n (map keyOf ms) ++ ks) (take n (map (markOf bus) ms) ++ zs)
-  all-start zero ms ks zs q b = q
-  all-start (suc n) [] ks zs q b = q
-  all-start (suc n) (m ∷ ms) ks zs q b = (start-holds bus m (b .0), all-start n ms ks zs q (b .1))
+  all-start : (ms : List PlainMeter) (ks zs : List ℕ) → Every Silent zs → Every Bounded ms → AllHold bus ms (map keyOf ms ++ ks) (map (markOf bus) ms ++ zs)
+  all-start [] ks zs q b = q
+  all-start (m ∷ ms) ks zs q b = (start-holds bus m (b .0), all-start ms ks zs q (b .1))
 
-  all-seen : (n : ℕ) (ms : List Meter) (zs : List ℕ) → Every Bounded (take n ms)
-      → seenAll bus (map plainMeter (take n ms)) (take n (map (markOf bus) ms) ++ zs) ≡ map plainMeter (take n ms)
+  all-seen : (ms : List PlainMeter) (zs : List ℕ) → Every Bounded ms → seenAll bus ms (map (markOf bus) ms ++ zs) ≡ ms
   unfolding seenAll
-  all-seen zero ms zs b = refl
-  all-seen (suc n) [] zs b = refl
-  all-seen (suc n) (m ∷ ms) zs b = ap₂ (λ x xs. x ∷ xs) (start-seen bus m (b .0)) (all-seen n ms zs (b .1))
+  all-seen [] zs b = refl
+  all-seen (m ∷ ms) zs b = ap₂ (λ x xs. x ∷ xs) (start-seen bus m (b .0)) (all-seen ms zs (b .1))
 
-  module _ (n : ℕ) (ms : List Meter) (b : Every Bounded (take n ms)) where
-    pub packed-hold : AllHold bus (map plainMeter (take n ms)) (packed keyOf n ms) (packed (markOf bus) n ms)
+  module _ (ms : List PlainMeter) (b : Every Bounded ms) where
+    pub packed-hold : AllHold bus ms (packed keyOf ms) (packed (markOf bus) ms)
     unfolding packed
-    packed-hold = all-start n ms (drop n (replicate capacity 0)) (drop n (replicate capacity 0)) (silent-zeros n capacity) b
+    packed-hold = all-start ms (drop (length ms) (replicate capacity 0)) (drop (length ms) (replicate capacity 0)) (silent-zeros (length ms) capacity) b
 
-    pub packed-seen : seenAll bus (map plainMeter (take n ms)) (packed (markOf bus) n ms) ≡ map plainMeter (take n ms)
+    pub packed-seen : seenAll bus ms (packed (markOf bus) ms) ≡ ms
     unfolding packed
-    packed-seen = all-seen n ms (drop n (replicate capacity 0)) b
+    packed-seen = all-seen ms (drop (length ms) (replicate capacity 0)) b
 
   -- put back
-  pub swept-seen : (n : ℕ) (ss : List ℕ) (ms : List PlainMeter) → length ms ≤ length ss → take n (sweptBy (seenBy bus) n ss ms) ≡ seenAll bus (take n ms) ss
+  pub swept-seen : (ss : List ℕ) (ms : List PlainMeter) → length ms ≤ length ss → sweptBy (seenBy bus) (length ms) ss ms ≡ seenAll bus ms ss
   unfolding seenAll
-  swept-seen zero ss ms h = refl
-  swept-seen (suc n) [] [] h = refl
-  swept-seen (suc n) [] (m ∷ ms) h = absurd (omega arith)
-  swept-seen (suc n) (s ∷ ss) [] h = refl
-  swept-seen (suc n) (s ∷ ss) (m ∷ ms) h = ap (λ xs. seenAs bus m s ∷ xs) (swept-seen n ss ms (omega arith))
+  swept-seen ss [] h = refl
+  swept-seen [] (m ∷ ms) h = absurd (omega arith)
+  swept-seen (s ∷ ss) (m ∷ ms) h = ap (λ xs. seenAs bus m s ∷ xs) (swept-seen ss ms (omega arith))

@@ -1,19 +1,22 @@
--- How the program's search packs the meters, and what a meter and an entry are that are packed.
+-- How the program's search packs the meters, and what a meter and an entry are that are packed. The words are the program's:
+-- that the packed search finds what 01's finds is proved (proofs/PackedWalk).
+use mathlib.Core.Path.{_≡_}
 use mathlib.Core.Bool.{Bool, true, false}
 use mathlib.Core.List.{List, _++_, map}
 use Prim.Native.Nat.{ℕ, zero, suc, _+_, _*_, _/_, _%_, _<_}
 use lib.Dec.{eqb}
-use lib.ListN.{take, drop, replicate}
+use lib.ListN.{length, drop, replicate}
 use Rattle.laws.specs.Words.{if_then_else_, bitIf}
-use Rattle.identity.specs.Identity.{digitsOf}
+use Rattle.identity.specs.Identity.{inBase, digitsOf}
 use Rattle.meter.specs.PlainMeter.{PlainMeter}
 use Rattle.meter.specs.Meter.{with, reached}
-use Rattle.meter.specs.declared.Meter.{Meter}
 use Rattle.meter.specs.declared.Fault.{Fault}
 use Rattle.meter.specs.declared.Fault.the-variants.{None, Checksum, Truncated, Busy, WrongAddress, Flaky, TooMany}
 use Rattle.meter.specs.declared.LastFcb.{LastFcb}
 use Rattle.meter.specs.declared.LastFcb.the-variants.{Never, Clear}
 use Rattle.scenarios.specs.Opening.{capacity}
+use Rattle.bus.specs.Plain.{Plain, withMeters}
+use Rattle.packed.specs.Marks.{sweptBy}
 use Rattle.search.specs.declared.EntryRecord.{EntryRecord}
 use Rattle.search.specs.declared.Kind.{Kind}
 use Rattle.search.specs.declared.Kind.the-variants.{One, Mute, Many}
@@ -31,22 +34,23 @@ faultBits Flaky = 32
 faultBits TooMany = 144
 
 -- the mark with which a search begins
-unfoldable pub markOf : ℕ → Meter → ℕ
+unfoldable pub markOf : ℕ → PlainMeter → ℕ
 markOf bus m =
-    if eqb (m .baud) bus then bitIf (m .selected) + bitIf (m .hearing) * 4 + faultBits (m .fault) + m .readouts * 256 + m .access * 65536
+    if eqb (m .baud) bus then bitIf (m .selected) + bitIf (m .hearsNext) * 4 + faultBits (m .fault) + m .readouts * 256 + m .access * 65536
     else 0
 
--- a meter's key
-abbrev pub keyOf : Meter → ℕ
-keyOf m = m .id
+-- a meter's key: its id as a number
+abbrev pub keyOf : PlainMeter → ℕ
+keyOf m = inBase 16 (m .digits)
 
--- numbers of the first n meters, 0 past them
-unfoldable pub packed : (Meter → ℕ) → ℕ → List Meter → List ℕ
-packed f n ms = take n (map f ms) ++ drop n (replicate capacity 0)
+-- numbers of the meters, 0 past them
+unfoldable pub packed : (PlainMeter → ℕ) → List PlainMeter → List ℕ
+packed f ms = map f ms ++ drop (length ms) (replicate capacity 0)
 
 -- what the program's types say of a meter
-pub record Bounded (m : Meter) : Type 0 where
-  pub id : m .id < 0x100000000
+pub record Bounded (m : PlainMeter) : Type 0 where
+  pub key : keyOf m < 0x100000000
+  pub digits : m .digits ≡ digitsOf (keyOf m)
   pub access : m .access < 256
   pub readouts : m .readouts < 256
 
@@ -82,6 +86,10 @@ seenAs bus m s = if eqb (m .baud) bus then asMarked m s else m
 
 abbrev pub seenBy : ℕ → ℕ → PlainMeter → PlainMeter
 seenBy bus s m = seenAs bus m s
+
+-- a segment whose meters are as their marks have them
+abbrev pub unmarked : List ℕ → Plain → Plain
+unmarked marks s = withMeters (sweptBy (seenBy (s .baud)) (length (s .meters)) marks (s .meters)) s
 
 -- ---- an entry
 

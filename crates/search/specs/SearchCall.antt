@@ -44,10 +44,14 @@ searchGave lent w =
       segment = w .segment;
     }
 
+-- no input waits, and no reply is queued
+abbrev pub isEmpty : Plain → Bool
+isEmpty s = eqb (length (s .input)) 0 && eqb (length (s .queue)) 0
+
 -- "Search checks 14, 16, 17": a clock field out of range; input or queue not empty; fewer entries lent than meters opened
 unfoldable pub searchCall : Clock → ℕ → List EntryRecord → Plain → Searched
 searchCall k allowance lent s =
     if not (goodClock k) then searchRefused 14 lent s else
-    if not (eqb (length (s .input)) 0 && eqb (length (s .queue)) 0) then searchRefused 16 lent s else
+    if not (isEmpty s) then searchRefused 16 lent s else
     if ltb (length lent) (length (s .meters)) then searchRefused 17 lent s else
     searchGave lent (wholeWalk k allowance s)

@@ -1,17 +1,20 @@
-// The search: the segment's meters are packed into numbers, the walk runs over these, and what it found is unpacked.
+// The search: the meters of a segment's image are packed into numbers, the walk runs over these, and what it found and left is unpacked.
 ghost use mathlib.Core.Path.{_≡_};
 ghost use Prim.Native.Nat.{_<_};
-ghost use lib.ListN.{length};
 ghost use Rattle.scenarios.specs.Opening.{capacity};
 ghost use Rattle.bus.specs.View.{plainOf};
+ghost use Rattle.image.specs.Image.{imaged};
 ghost use Rattle.search.specs.SearchCall.{searchCall};
-ghost use Rattle.search.specs.View.{outcomeNumber, Empty, metersHeld, Walks, Refuses, CoreFinds, answerOf, recordAt, searchedOf};
+ghost use Rattle.search.specs.View.{outcomeNumber, Refuses, Walks, SearchesIn, CoreFinds, answerOf, recordAt, searchedOf};
+ghost use Rattle.search.specs.SearchCall.{isEmpty};
 use bus::METERS;
 use bus::Segment;
 use clock::Clock;
 use clock::good_clock;
+use image::IMAGE;
 use laws::least;
 use packed::walk_all;
+use segment_places::head;
 
 mod pack;
 
@@ -48,6 +51,80 @@ pub fn outcome_number(outcome: Outcome) -> u32
     }
 }
 
+// What a search gives beside the segment: the first `count` entries are those found.
+pub struct Entries {
+    pub outcome: Outcome,
+    pub entries: [EntryRecord; METERS],
+    pub count: usize,
+    pub probes: u32,
+    pub spent: bool,
+}
+
+// A refused search: no entry, no probe.
+fn refused(outcome: Outcome) -> Entries
+    ensures { λ r. ⌜ Refuses outcome r ⌝ }
+{
+    let entries = pack::blank_records();
+    Entries {
+        outcome: outcome,
+        entries: entries,
+        count: 0,
+        probes: 0,
+        spent: false,
+    }
+}
+
+// The meters packed, the walk over them, and what it found and left unpacked.
+fn walk_packed(image: &mut [u8; IMAGE], allowance: u32) -> Entries
+    ensures { λ r. ⌜ Walks (now (image .entry)) allowance r (now (image .exit)) ⌝ }
+{
+    let keys = pack::keys_of(image);
+    let marks = pack::marks_of(image);
+    let w = walk_all(keys, marks, allowance);
+    let found = w.found;
+    let left = w.marks;
+    let entries = w.entries;
+    pack::unmark_all(image, left);
+    let records = pack::records_of(entries, found);
+    let made = Outcome::Made;
+    Entries {
+        outcome: made,
+        entries: records,
+        count: least(found, METERS),
+        probes: w.probes,
+        spent: w.spent,
+    }
+}
+
+// No input waits, and no reply is queued.
+fn is_empty(image: &[u8; IMAGE]) -> bool
+    ensures { λ r. ⌜ r ≡ isEmpty (imaged (now (image .entry))) ⌝ }
+{
+    if head::waiting_of(image) == 0 {
+        return head::queued_of(image) == 0;
+    }
+    false
+}
+
+// A search of the segment that an image means; `room` is the number of entry records lent. It checks 14, 16, 17.
+pub fn search_in(image: &mut [u8; IMAGE], clock: Clock, allowance: u32, room: usize) -> Entries
+    ensures { λ r. ⌜ SearchesIn (now (image .entry)) clock allowance room r (now (image .exit)) ⌝ }
+{
+    if !good_clock(clock) {
+        let out = Outcome::ClockOutOfRange;
+        return refused(out);
+    }
+    if !is_empty(image) {
+        let out = Outcome::NotEmpty;
+        return refused(out);
+    }
+    if room < head::count_of(image) {
+        let out = Outcome::TooFewLent;
+        return refused(out);
+    }
+    walk_packed(image, allowance)
+}
+
 // A search by value: the first `count` entries are those found.
 pub struct Core {
     pub outcome: Outcome,
@@ -58,83 +135,23 @@ pub struct Core {
     pub segment: Segment,
 }
 
-// A refused search: no entry, no probe, the segment as it was.
-fn refused(segment: Segment, outcome: Outcome) -> Core
-    ensures { λ r. ⌜ Refuses segment outcome r ⌝ }
-{
-    let entries = pack::blank_records();
-    Core {
-        outcome: outcome,
-        entries: entries,
-        count: 0,
-        probes: 0,
-        spent: false,
-        segment: segment,
-    }
-}
-
-// The meters packed, the walk over them, and what it found and left unpacked.
-fn walk_packed(segment: Segment, allowance: u32) -> Core
-    ensures { λ r. ⌜ Walks segment allowance r ⌝ }
-{
-    let meters = segment.meters;
-    let count = segment.count;
-    let bus = segment.baud;
-    let keys = pack::keys_of(meters, count);
-    let marks = pack::marks_of(meters, count, bus);
-    let w = walk_all(keys, marks, allowance);
-    let found = w.found;
-    let left = w.marks;
-    let entries = w.entries;
-    let after = pack::unmark_all(meters, count, bus, left);
-    let records = pack::records_of(entries, found);
-    let made = Outcome::Made;
-    let mut t = segment;
-    t.meters = after;
-    Core {
-        outcome: made,
-        entries: records,
-        count: least(found, METERS),
-        probes: w.probes,
-        spent: w.spent,
-        segment: t,
-    }
-}
-
-// No input waits, and no reply is queued.
-fn is_empty(segment: Segment) -> bool
-    ensures { λ r. ⌜ Empty segment r ⌝ }
-{
-    if segment.waiting == 0 {
-        return segment.queued == 0;
-    }
-    false
-}
-
-// The meters opened.
-fn meter_count(segment: Segment) -> usize
-    ensures { λ r. ⌜ (r ≡ length ((plainOf segment) .meters)) × (r ≡ metersHeld segment) ⌝ }
-{
-    least(segment.count, METERS)
-}
-
-// A search, by value; `room` is the number of entry records lent. It checks 14, 16, 17.
+// A search, by value: of the segment's image.
 pub fn search_core(segment: Segment, clock: Clock, allowance: u32, room: usize) -> Core
     ensures { λ r. ⌜ CoreFinds segment clock allowance room r ⌝ }
 {
-    if !good_clock(clock) {
-        let out = Outcome::ClockOutOfRange;
-        return refused(segment, out);
+    let mut image = image::image_of(segment);
+    let found = search_in(&mut image, clock, allowance, room);
+    let outcome = found.outcome;
+    let entries = found.entries;
+    let after = image::read_image(&image);
+    Core {
+        outcome: outcome,
+        entries: entries,
+        count: found.count,
+        probes: found.probes,
+        spent: found.spent,
+        segment: after,
     }
-    if !is_empty(segment) {
-        let out = Outcome::NotEmpty;
-        return refused(segment, out);
-    }
-    if room < meter_count(segment) {
-        let out = Outcome::TooFewLent;
-        return refused(segment, out);
-    }
-    walk_packed(segment, allowance)
 }
 
 // What a search answers; the entries found are in the first `count` of the lent records.

@@ -1,22 +1,27 @@
-// From the meters to their keys and marks and back, and from an entry's number to its record.
+// From the meters of an image to their keys and marks and back, and from an entry's number to its record.
 ghost use mathlib.Core.Path.{_≡_};
 ghost use mathlib.Core.List.{map};
-ghost use Prim.Native.Nat.{ℕ, _≤_, min};
-ghost use lib.ListN.{length, take, replicate};
+ghost use Prim.Native.Nat.{_≤_, min};
+ghost use lib.ListN.{take, replicate};
 ghost use Rattle.laws.specs.Words.{Every};
 ghost use Rattle.identity.specs.Identity.{digitsOf};
 ghost use Rattle.meter.specs.View.{plainMeter};
 ghost use Rattle.scenarios.specs.Opening.{capacity};
-ghost use Rattle.packed.specs.Marks.{sweptBy};
-ghost use Rattle.search.specs.Packing.{faultBits, keyOf, markOf, Bounded, packed, lastIn, partIn, seenAs, seenBy, kindIn, countIn, recordIn};
+ghost use Rattle.image.specs.Image.{imaged};
+ghost use Rattle.segment_places.specs.Becomes.{Becomes};
+ghost use Rattle.search.specs.Packing.{faultBits, keyOf, markOf, Bounded, packed, lastIn, partIn, seenAs, unmarked, kindIn, countIn, recordIn};
 use crate::EntryRecord;
 use crate::Kind;
 use bus::METERS;
+use image::IMAGE;
 use laws::bit;
 use laws::least;
 use meter::Fault;
 use meter::LastFcb;
 use meter::Meter;
+use segment_places::head;
+use segment_places::meters::meter_at;
+use segment_places::meters::put_meter;
 
 fn zeros() -> [u32; METERS]
     ensures { λ r. ⌜ r ≡ replicate capacity 0 ⌝ }
@@ -39,9 +44,15 @@ fn fault_bits(fault: Fault) -> u32
     }
 }
 
+fn key_of(m: Meter) -> u32
+    ensures { λ r. ⌜ r ≡ keyOf (plainMeter m) ⌝ }
+{
+    m.id
+}
+
 // The mark with which a search begins.
 fn mark_of(m: Meter, bus: u32) -> u32
-    ensures { λ r. ⌜ (r ≡ markOf bus m) × Bounded m ⌝ }
+    ensures { λ r. ⌜ (r ≡ markOf bus (plainMeter m)) × Bounded (plainMeter m) ⌝ }
 {
     if m.baud == bus {
         let fault = m.fault;
@@ -51,28 +62,30 @@ fn mark_of(m: Meter, bus: u32) -> u32
     0
 }
 
-pub(crate) fn keys_of(meters: [Meter; METERS], count: usize) -> [u32; METERS]
-    ensures { λ r. ⌜ r ≡ packed keyOf (min count capacity) meters ⌝ }
+pub(crate) fn keys_of(image: &[u8; IMAGE]) -> [u32; METERS]
+    ensures { λ r. ⌜ r ≡ packed keyOf (imaged (now (image .entry)) .meters) ⌝ }
 {
     let mut keys = zeros();
-    let end = least(count, METERS);
+    let end = head::count_of(image);
     let mut i: usize = 0;
     while i < end {
-        let m = meters[i];
-        keys[i] = m.id;
+        let m = meter_at(image, i);
+        let k = key_of(m);
+        keys[i] = k;
         i += 1;
     }
     keys
 }
 
-pub(crate) fn marks_of(meters: [Meter; METERS], count: usize, bus: u32) -> [u32; METERS]
-    ensures { λ r. ⌜ (r ≡ packed (markOf bus) (min count capacity) meters) × Every Bounded (take (min count capacity) meters) × (length meters ≡ capacity) ⌝ }
+pub(crate) fn marks_of(image: &[u8; IMAGE]) -> [u32; METERS]
+    ensures { λ r. ⌜ (r ≡ packed (markOf (imaged (now (image .entry)) .baud)) (imaged (now (image .entry)) .meters)) × Every Bounded (imaged (now (image .entry)) .meters) ⌝ }
 {
     let mut marks = zeros();
-    let end = least(count, METERS);
+    let end = head::count_of(image);
+    let bus = head::baud_of(image);
     let mut i: usize = 0;
     while i < end {
-        let m = meters[i];
+        let m = meter_at(image, i);
         let s = mark_of(m, bus);
         marks[i] = s;
         i += 1;
@@ -135,24 +148,19 @@ fn unmark(m: Meter, bus: u32, mark: u32) -> Meter
     m
 }
 
-pub(crate) fn unmark_all(
-    meters: [Meter; METERS],
-    count: usize,
-    bus: u32,
-    marks: [u32; METERS],
-) -> [Meter; METERS]
-    ensures { λ r. ⌜ map plainMeter r ≡ sweptBy (seenBy bus) (min count capacity) marks (map plainMeter meters) ⌝ }
+// Each meter as its mark has it, over the bytes that it had.
+pub(crate) fn unmark_all(image: &mut [u8; IMAGE], marks: [u32; METERS])
+    ensures { λ _. ⌜ Becomes (now (image .entry)) (unmarked marks (imaged (now (image .entry)))) (now (image .exit)) ⌝ }
 {
-    let mut ms = meters;
-    let end = least(count, METERS);
+    let end = head::count_of(image);
+    let bus = head::baud_of(image);
     let mut i: usize = 0;
     while i < end {
-        let m = ms[i];
+        let m = meter_at(image, i);
         let k = unmark(m, bus, marks[i]);
-        ms[i] = k;
+        put_meter(image, i, k);
         i += 1;
     }
-    ms
 }
 
 fn digits_of(id: u32) -> [u8; 8]

@@ -1,10 +1,10 @@
--- A search on an image, from what the search by value gives.
+-- A search on an image as numbers and bytes, from what the search in the image gives.
 use mathlib.Core.Path.{_≡_, refl, sym, ap, subst, _∙_}
-use mathlib.Core.Bool.{_&&_, not}
+use mathlib.Core.Bool.{not}
 use mathlib.Core.List.{List, [], _∷_, _++_}
 use Prim.Native.Nat.{ℕ, _+_, _*_, _/_, _<_}
 use native.Mathlib.Omega.{arith}
-use lib.Dec.{eqb, ltb}
+use lib.Dec.{ltb}
 use lib.ListN.{length, take, drop, replicate, length-replicate}
 use lib.Seq.{take-at, length-take-le}
 use Rattle.scenarios.specs.Opening.{mostMeters}
@@ -14,13 +14,12 @@ use Rattle.values.specs.Values.{little}
 use Rattle.clock.specs.declared.Clock.{Clock}
 use Rattle.bus.specs.Plain.{Plain}
 use Rattle.clock.specs.Fields.{goodClock}
-use Rattle.bus.specs.View.{plainOf}
-use Rattle.bus.specs.declared.Segment.{Segment}
 use Rattle.search.specs.declared.EntryRecord.{EntryRecord}
-use Rattle.search.specs.declared.Core.{Core}
+use Rattle.search.specs.declared.Entries.{Entries}
 use Rattle.search.specs.SearchCall.{Searched, searchCall}
-use Rattle.search.specs.View.{noEntry, outcomeNumber, coreGives, CoreFinds}
-use Rattle.image.specs.Image.{imaged, imageOf, IsImage}
+use Rattle.search.specs.View.{noEntry, outcomeNumber, entriesGive, SearchesIn}
+use Rattle.search.specs.SearchCall.{isEmpty}
+use Rattle.image.specs.Image.{imaged}
 use Rattle.search_call.specs.Searches.{kindByte, entryBytes, summaryOf, searchBy, Searches}
 
 -- ---- entries, one behind the other
@@ -39,80 +38,74 @@ entry-is e k n h l w = ap (λ (j : ℕ). row-of e j (four n)) h ∙ ap (row-of e
 
 -- ---- the search
 
--- a refused search finds nothing and changes nothing
-abbrev Stays : Plain → Searched → Type 0
-Stays s r = 0 < r .number → (r .count ≡ 0) × (r .segment ≡ s)
+-- a refused search finds nothing
+abbrev FindsNone : Searched → Type 0
+FindsNone r = 0 < r .number → r .count ≡ 0
 
-search-stays : (k : Clock) (allowance : ℕ) (lent : List EntryRecord) (s : Plain) → Stays s (searchCall k allowance lent s)
+refused-none : (k : Clock) (allowance : ℕ) (lent : List EntryRecord) (s : Plain) → FindsNone (searchCall k allowance lent s)
 unfolding searchCall
-search-stays k allowance lent s =
-    if-all (Stays s) (not (goodClock k)) _ _ (λ _. (refl, refl))
-    (if-all (Stays s) (not (eqb (length (s .input)) 0 && eqb (length (s .queue)) 0)) _ _ (λ _. (refl, refl))
-    (if-all (Stays s) (ltb (length lent) (length (s .meters))) _ _ (λ _. (refl, refl)) (λ h. absurd (omega (arith, h)))))
+refused-none k allowance lent s =
+    if-all FindsNone (not (goodClock k)) _ _ (λ _. refl)
+    (if-all FindsNone (not (isEmpty s)) _ _ (λ _. refl)
+    (if-all FindsNone (ltb (length lent) (length (s .meters))) _ _ (λ _. refl) (λ h. absurd (omega (arith, h)))))
 
-module _ (k : Clock) (allowance : ℕ) (entries image : List ℕ) (s : Segment) (i : plainOf s ≡ imaged image) (r : Core) (f : CoreFinds s k allowance (length entries / 16) r) where
+module _ (k : Clock) (allowance : ℕ) (entries image image₁ : List ℕ) (r : Entries) (f : SearchesIn image k allowance (length entries / 16) r image₁) where
   abbrev lent : List EntryRecord
   lent = replicate (length entries / 16) noEntry
 
   abbrev want : Searched
   want = searchBy k allowance entries (imaged image)
 
-  gives : coreGives r lent ≡ want
+  gives : entriesGive r (imaged image₁) lent ≡ want
   unfolding searchBy
-  gives = f .gives lent (length-replicate (length entries / 16) noEntry) ∙ ap (searchCall k allowance lent) i
+  gives = f .gives lent (length-replicate (length entries / 16) noEntry)
 
   number-gives : outcomeNumber (r .outcome) ≡ want .number
-  unfolding coreGives
   number-gives = ap (λ (x : Searched). x .number) gives
 
   count-gives : r .count ≡ want .count
-  unfolding coreGives
   count-gives = ap (λ (x : Searched). x .count) gives
 
   probes-gives : r .probes ≡ want .probes
-  unfolding coreGives
   probes-gives = ap (λ (x : Searched). x .probes) gives
 
   spent-gives : r .spent ≡ want .spent
-  unfolding coreGives
   spent-gives = ap (λ (x : Searched). x .spent) gives
 
-  segment-gives : plainOf (r .segment) ≡ want .segment
-  unfolding coreGives
+  segment-gives : imaged image₁ ≡ want .segment
   segment-gives = ap (λ (x : Searched). x .segment) gives
 
   lent-gives : take (r .count) (r .entries) ++ drop (r .count) lent ≡ want .lent
-  unfolding coreGives
   lent-gives = ap (λ (x : Searched). x .lent) gives
 
-  pub search-refused : (n : ℕ) (summary : List ℕ) → n ≡ outcomeNumber (r .outcome) → 0 < n → Searches want n image image entries entries summary summary
+  pub search-refused : (n : ℕ) (summary : List ℕ) → n ≡ outcomeNumber (r .outcome) → 0 < n → Searches want n image image₁ entries entries summary summary
   unfolding searchBy
   search-refused n summary e h =
       let m : n ≡ want .number = e ∙ number-gives in
-      let z = search-stays k allowance lent (imaged image) (subst (λ (x : ℕ). 0 < x) m h) in
+      let z = refused-none k allowance lent (imaged image) (subst (λ (x : ℕ). 0 < x) m h) in
       record {
         answer = m;
-        segment = sym (z .1);
-        bytes = λ q. absurd (omega (arith, q, h));
-        written = ap (λ (c : ℕ). each (take c (want .lent)) entryBytes ++ drop (16 * c) entries) (sym (z .0));
+        segment = segment-gives;
+        exact = f .exact;
+        written = ap (λ (c : ℕ). each (take c (want .lent)) entryBytes ++ drop (16 * c) entries) (sym z);
         told = λ q. absurd (omega (arith, q, h));
-        image-kept = λ _. refl;
+        image-kept = λ _. f .kept (omega (arith, e, h));
         entries-kept = λ _. refl;
         summary-kept = λ _. refl;
       }
 
-  pub search-made : (image₁ entries₁ summary summary₁ : List ℕ) → 0 ≡ outcomeNumber (r .outcome) → IsImage (plainOf (r .segment)) image₁ → length (r .entries) ≡ mostMeters
+  pub search-made : (entries₁ summary summary₁ : List ℕ) → 0 ≡ outcomeNumber (r .outcome) → length (r .entries) ≡ mostMeters
       → entries₁ ≡ each (take (r .count) (r .entries)) entryBytes ++ drop (16 * r .count) entries
       → summary₁ ≡ summaryOf (r .count) (r .probes) (r .spent)
       → Searches want 0 image image₁ entries entries₁ summary summary₁
-  search-made image₁ entries₁ summary summary₁ e w l es su =
+  search-made entries₁ summary summary₁ e l es su =
       let t : take (want .count) (want .lent) ≡ take (r .count) (r .entries) =
       ap (λ (c : ℕ). take c (want .lent)) (sym count-gives) ∙ ap (take (r .count)) (sym lent-gives)
       ∙ take-at (take (r .count) (r .entries)) (drop (r .count) lent) (r .count) (length-take-le (r .count) (r .entries) (omega (arith, f .fits, l))) in
       record {
         answer = e ∙ number-gives;
-        segment = w .means ∙ segment-gives;
-        bytes = λ _. w .bytes ∙ ap imageOf segment-gives;
+        segment = segment-gives;
+        exact = f .exact;
         written = es ∙ ap (λ (x : List ℕ). x ++ drop (16 * r .count) entries) (ap (λ (xs : List EntryRecord). each xs entryBytes) (sym t)) ∙ ap (λ (c : ℕ). each (take (want .count) (want .lent)) entryBytes ++ drop (16 * c) entries) count-gives;
         told = λ _. su ∙ ap (λ (c : ℕ). summaryOf c (r .probes) (r .spent)) count-gives ∙ ap (λ (c : ℕ). summaryOf (want .count) c (r .spent)) probes-gives ∙ ap (summaryOf (want .count) (want .probes)) spent-gives;
         image-kept = λ h. absurd (omega (arith, h));

@@ -1,4 +1,4 @@
--- A search on an image: what it answers, and what it writes into the lent bytes.
+-- A search on an image: what it answers, and what it writes into the lent bytes. The words are the program's; the search is 01's (search, specs/SearchCall.antt).
 use mathlib.Core.Path.{_≡_}
 use mathlib.Core.Bool.{Bool}
 use mathlib.Core.List.{List, [], _∷_, _++_}
@@ -13,7 +13,7 @@ use Rattle.search.specs.declared.EntryRecord.{EntryRecord}
 use Rattle.search.specs.SearchCall.{Searched, searchCall}
 use Rattle.search.specs.View.{noEntry}
 use Rattle.bus.specs.Plain.{Plain}
-use Rattle.image.specs.Image.{imaged, imageOf}
+use Rattle.image.specs.Image.{imaged, Exact}
 
 -- one, mute, many
 abbrev pub kindByte : Kind → ℕ
@@ -35,12 +35,13 @@ summaryOf count probes spent = little 4 count ++ little 4 probes ++ little 4 (bi
 unfoldable pub searchBy : Clock → ℕ → List ℕ → Plain → Searched
 searchBy k allowance entries s = searchCall k allowance (replicate (length entries / 16) noEntry) s
 
--- The answer is the search's number, the image means its segment, its entries stand in front of the lent bytes, further ones stay.
--- Where the number is 0, the image is that segment's, and the summary is written; else every byte of the image, of the entries and of the summary stays.
+-- The answer is the search's number, the image means its segment, its entries are the first of the lent bytes, further ones stay.
+-- An image that was the one image of its segment is so afterwards.
+-- Where the number is 0 the summary is written; else every byte of the image, of the entries and of the summary stays.
 pub record Searches (want : Searched) (number : ℕ) (image image₁ entries entries₁ summary summary₁ : List ℕ) : Type 0 where
   pub answer : number ≡ want .number
   pub segment : imaged image₁ ≡ want .segment
-  pub bytes : number ≡ 0 → image₁ ≡ imageOf (want .segment)
+  pub exact : Exact image → Exact image₁
   pub written : entries₁ ≡ each (take (want .count) (want .lent)) entryBytes ++ drop (16 * want .count) entries
   pub told : number ≡ 0 → summary₁ ≡ summaryOf (want .count) (want .probes) (want .spent)
   pub image-kept : 0 < number → image₁ ≡ image

@@ -1,5 +1,4 @@
 // A search over an image, as numbers and bytes.
-ghost use mathlib.Core.Path.{_≡_};
 ghost use Rattle.image.specs.Image.{imaged};
 ghost use Rattle.search_call.specs.Searches.{searchBy, Searches};
 use clock::Clock;
@@ -23,7 +22,6 @@ pub fn search_image(
 ) -> u32
     ensures { λ r. ⌜ Searches (searchBy (record { now = secs; year = year; month = month; day = day; hour = hour; minute = minute }) allowance (now (entries .entry)) (imaged (now (image .entry)))) r (now (image .entry)) (now (image .exit)) (now (entries .entry)) (now (entries .exit)) (now (summary .entry)) (now (summary .exit)) ⌝ }
 {
-    let s = image::read_image(image);
     let clock = Clock {
         now: secs,
         year: year,
@@ -33,17 +31,15 @@ pub fn search_image(
         minute: minute,
     };
     let room = entries.len() / 16;
-    let core = search::search_core(s, clock, allowance, room);
-    let outcome = core.outcome;
+    let found = search::search_in(image, clock, allowance, room);
+    let outcome = found.outcome;
     let number = search::outcome_number(outcome);
     if number != 0 {
         return number;
     }
-    let found = core.entries;
-    let count = core.count;
-    entries::put_entries(found, count, entries);
-    *summary = entries::summary_of(count, core.probes, core.spent);
-    let t = core.segment;
-    image::write_image(t, image);
+    let records = found.entries;
+    let count = found.count;
+    entries::put_entries(records, count, entries);
+    *summary = entries::summary_of(count, found.probes, found.spent);
     0
 }

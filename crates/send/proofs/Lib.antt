@@ -1,8 +1,5 @@
-pub mod HandleLaws
-pub mod RepliesLaws
+pub mod DoneLaws
 pub mod SendLaws
 pub mod SentLaws
 pub mod SettleLaws
 pub mod Slips
-pub mod SweepLaws
-pub mod UndoLaws

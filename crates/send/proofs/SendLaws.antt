@@ -9,7 +9,7 @@ use lib.Dec.{ltb}
 use borrow.Author.Tests.{le-ltb, ltb-false}
 use lib.ListN.{length, drop, length-drop}
 use lib.Seq.{drop-length}
-use Rattle.laws.specs.Words.{if_then_else_, Bytes}
+use Rattle.laws.specs.Words.{Bytes}
 use Rattle.laws.proofs.Lists.{if-all, if-with, map-map, map-same, every-all}
 use Rattle.frame.specs.Frame.{Telegram, ack, short, long, Why, Parsed, complete, incomplete, invalid, parse, encode}
 use Rattle.frame.proofs.RoundTrip.{parse-encode, parse-back}
@@ -22,7 +22,8 @@ use Rattle.seconds.specs.Seconds.{elapsedOf}
 use Rattle.bus.specs.Plain.{Plain, withInput}
 use Rattle.bus.specs.Calls.{Done, accepted, refused}
 use Rattle.replies.specs.Replies.{joined}
-use Rattle.send.specs.Steps.{replies, toAll, heardBy, handled, steps, settled}
+use Rattle.segment_telegram.specs.Handled.{replies, toAll, heardBy, handled}
+use Rattle.send.specs.Steps.{steps, settled}
 use Rattle.send.specs.Send.{fitsQueue, send}
 
 -- ---- one telegram

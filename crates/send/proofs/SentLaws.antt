@@ -1,17 +1,15 @@
 -- Send, refusal by refusal, from what its parts did.
-use mathlib.Core.Path.{_≡_, sym, ap, _∙_}
+use mathlib.Core.Path.{_≡_, refl, sym, ap, _∙_}
 use mathlib.Core.Bool.{Bool, true, false, not}
-use mathlib.Core.List.{List, _++_}
-use Prim.Native.Nat.{ℕ, _≤_, _<_, min}
+use mathlib.Core.List.{List, [], _∷_, _++_}
+use Prim.Native.Nat.{ℕ, _≤_, _<_}
+use native.Mathlib.Omega.{arith}
 use borrow.Author.Tests.{lt-ltb, le-ltb, not-true, not-false}
-use lib.ListN.{length, take}
-use Rattle.laws.proofs.Copy.{take-min}
+use lib.ListN.{length}
 use Rattle.clock.specs.declared.Clock.{Clock}
 use Rattle.clock.specs.Fields.{goodClock}
-use Rattle.bus.specs.declared.Segment.{Segment}
 use Rattle.bus.specs.Plain.{Plain, withInput}
 use Rattle.bus.specs.Calls.{refused}
-use Rattle.bus.specs.View.{plainOf}
 use Rattle.send.specs.Steps.{settled}
 use Rattle.send.specs.Send.{fitsQueue, send}
 
@@ -33,7 +31,7 @@ module _ (piece : List ℕ) (k : Clock) (s : Plain) where
       pub send-settles : {bytes : List ℕ} → bytes ≡ s .input ++ piece → fitsQueue s (settled k (withInput bytes s)) ≡ send piece k s
       send-settles b = ap (λ x. fitsQueue s (settled k (withInput x s))) b ∙ sym steps-taken
 
--- the line holds what waits and the piece
-pub line-is : (s : Segment) (n : ℕ) (piece l : List ℕ) → n ≡ min (s .waiting) 260 → length (s .input) ≡ 260 → l ≡ take n (s .input) ++ piece → l ≡ plainOf s .input ++ piece
-unfolding plainOf
-line-is s n piece l e long h = h ∙ ap (λ x. x ++ piece) (ap (λ m. take m (s .input)) (e ∙ ap (min (s .waiting)) (sym long)) ∙ take-min (s .waiting) (s .input))
+-- where nothing waits, the piece is all there is
+pub nothing-waits : (s : List ℕ) (n : ℕ) (piece : List ℕ) → n ≡ length s → n ≡ 0 → piece ≡ s ++ piece
+nothing-waits [] n piece e f = refl
+nothing-waits (x ∷ s) n piece e f = absurd (omega arith)

@@ -1,14 +1,13 @@
--- The loop over the telegrams: what is left from here is the whole. Its turns, and its ways out.
+-- The loop over the telegrams on an image: what is left from here is the whole. Its turns, and its ways out.
 use mathlib.Core.Path.{_≡_, refl, sym, ap, _∙_}
-use mathlib.Core.List.{List, _++_}
-use Prim.Native.Nat.{ℕ, _+_, _-_, _≤_, _<_}
+use mathlib.Core.Bool.{Bool, true, false}
+use mathlib.Core.List.{List, [], _++_}
+use Prim.Native.Nat.{ℕ, _+_, _-_, _*_, _/_, _≤_, _<_}
 use native.Mathlib.Omega.{arith}
-use borrow.Author.Tests.{lt-ltb, le-ltb}
-use lib.ListN.{length, take, drop, length-append}
-use lib.Seq.{drop-drop}
-use Rattle.laws.specs.Words.{if_then_else_}
+use lib.ListN.{length, drop, length-append}
+use lib.Seq.{drop-drop, length-take-le}
 use Rattle.laws.proofs.Lists.{if-all}
-use Rattle.frame.specs.Frame.{Telegram, Why, complete, incomplete, invalid, parse}
+use Rattle.frame.specs.Frame.{Telegram, ack, short, long, Why, complete, incomplete, invalid, parse, encode}
 use Rattle.frame.specs.declared.Frame.{Frame}
 use Rattle.frame.specs.declared.Why as declared-why
 use Rattle.frame.specs.declared.Outcome.{Outcome}
@@ -16,15 +15,16 @@ use Rattle.frame.specs.declared.Outcome.the-variants.{Complete, Incomplete, Inv
 use Rattle.frame.specs.View.{telegramOf, dataAt, whyOf, parsedOf}
 use Rattle.frame.proofs.RoundTrip.{parse-back}
 use Rattle.clock.specs.declared.Clock.{Clock}
-use Rattle.bus.specs.declared.Segment.{Segment}
 use Rattle.bus.specs.Plain.{Plain, withInput}
-use Rattle.bus.specs.View.{plainOf}
-use Rattle.bus.specs.Calls.{Done, accepted, refused}
 use Rattle.replies.specs.Replies.{joined}
-use Rattle.send.specs.Steps.{replies, toAll, heardBy, handled, settled}
-use Rattle.send.specs.Send.{fitsQueue}
+use Rattle.image.specs.Image.{imaged}
+use Rattle.segment_places.specs.Becomes.{Becomes}
+use Rattle.segment_places.proofs.Becoming.{becomes-same, becomes-as, becomes-then}
+use Rattle.segment_telegram.specs.Handled.{replies, toAll, heardBy, handled}
+use Rattle.send.specs.Steps.{settled}
+use Rattle.segment_telegram.specs.Comes.{mayReply, Comes}
+use Rattle.send.specs.Settle.{ComesOrStays}
 use Rattle.send.proofs.SendLaws.{used-some, steps-keeps, settled-complete, settled-incomplete, settled-invalid}
-use Rattle.send.proofs.HandleLaws.{queue-fits}
 
 -- ---- the queue only grows
 
@@ -34,73 +34,96 @@ handled-grows t k rest s =
     if-all (λ q. length (s .queue) ≤ length q) (toAll t) (s .queue) (s .queue ++ joined (replies (heardBy t k s))) (omega arith)
     (omega (arith, length-append (s .queue) (joined (replies (heardBy t k s)))))
 
-pub settled-grows : (k : Clock) (s : Plain) → length (s .queue) ≤ length (settled k s .queue)
+settled-grows : (k : Clock) (s : Plain) → length (s .queue) ≤ length (settled k s .queue)
 unfolding settled
 settled-grows k s =
     steps-keeps (λ u. length (s .queue) ≤ length (u .queue)) (λ t k rest u h. let g = handled-grows t k rest u in omega arith) (λ u h. h) (length (s .input)) k s (omega arith)
 
+-- two answers are never one
+never : {A : Type 0} {b : Bool} → b ≡ true → b ≡ false → A
+never e f = let z : _≡_ {A = ℕ} 0 1 = cc in absurd (omega arith)
+
 -- ---- the loop
 
--- the segment with other input
-abbrev pub waiting : List ℕ → ℕ → Segment → Segment
-waiting bytes n s =
-    record { meters = s .meters; count = s .count; baud = s .baud; origin = s .origin; input = bytes; waiting = n; queue = s .queue; queued = s .queued }
-
--- the bytes from pos on are left; before them t₀ became t
-pub record Left (k : Clock) (bytes : List ℕ) (t₀ : Segment) (pos : ℕ) (t : Segment) : Type 0 where
-  pub is : settled k (withInput (drop pos bytes) (plainOf t)) ≡ settled k (withInput bytes (plainOf t₀))
+-- the bytes from pos on are left; before them old became new
+pub record Left (k : Clock) (bytes old : List ℕ) (pos : ℕ) (new : List ℕ) : Type 0 where
+  pub is : settled k (withInput (drop pos bytes) (imaged new)) ≡ settled k (withInput bytes (imaged old))
+  pub becomes : Becomes old (imaged new) new
+  pub grown : length (imaged new .queue) ≤ length (imaged old .queue) + 96 * (pos / 5)
 
 -- what all the bytes come to
-abbrev all : Clock → List ℕ → Segment → Done
-all k bytes t₀ = fitsQueue (plainOf t₀) (settled k (withInput bytes (plainOf t₀)))
+abbrev all : Clock → List ℕ → List ℕ → Plain
+all k bytes old = settled k (withInput bytes (imaged old))
 
-module _ {k : Clock} {bytes : List ℕ} {t₀ : Segment} where
-  pub left-none : Left k bytes t₀ 0 t₀
-  left-none = record { is = refl }
+module _ {k : Clock} {bytes old : List ℕ} where
+  pub left-none : Left k bytes old 0 old
+  left-none = record { is = refl; becomes = becomes-same; grown = omega arith }
 
-  module _ {pos : ℕ} {t : Segment} (l : Left k bytes t₀ pos t) where
-    module _ (tel : Telegram) (used : ℕ) (e : parse (drop pos bytes) ≡ complete tel used) where
-      taken : settled k (withInput (drop (pos + used) bytes) (handled tel k (plainOf t .input) (plainOf t))) ≡ settled k (withInput bytes (plainOf t₀))
+  module _ {pos : ℕ} {mid : List ℕ} (l : Left k bytes old pos mid) where
+    abbrev now : Plain
+    now = imaged mid
+
+    module _ (t : Telegram) (used : ℕ) (e : parse (drop pos bytes) ≡ complete t used) (some : 5 * mayReply t ≤ used) where
+      abbrev next : Plain
+      next = handled t k (now .input) now
+
+      taken : settled k (withInput (drop (pos + used) bytes) next) ≡ all k bytes old
       unfolding handled heardBy
       taken =
-          ap (λ x. settled k (withInput x (handled tel k (plainOf t .input) (plainOf t)))) (sym (drop-drop used pos bytes))
-          ∙ sym (settled-complete k (withInput (drop pos bytes) (plainOf t)) tel used e)
+          ap (λ x. settled k (withInput x next)) (sym (drop-drop used pos bytes))
+          ∙ sym (settled-complete k (withInput (drop pos bytes) now) t used e)
           ∙ l .is
 
-      abbrev next : Plain
-      next = handled tel k (plainOf t .input) (plainOf t)
-
-      pub left-more : {u : Segment} → plainOf u ≡ next → Left k bytes t₀ (pos + used) u
-      left-more e = record { is = ap (λ x. settled k (withInput (drop (pos + used) bytes) x)) e ∙ taken }
+      pub left-more : {r : Bool} {new : List ℕ} → Comes next (mayReply t) mid r new → r ≡ true → Left k bytes old (pos + used) new
+      left-more {r} {new} c d =
+          let b = c .done d in
+          record {
+            is = ap (λ x. settled k (withInput (drop (pos + used) bytes) x)) (b .means) ∙ taken;
+            becomes = becomes-as (sym (b .means)) (becomes-then (l .becomes) b);
+            grown = omega (arith, c .grows d, ap (λ p. length (p .queue)) (b .means), l .grown);
+          }
 
       -- the queue is too long already
-      pub left-full : 4096 < length (next .queue) → refused 15 (plainOf t₀) ≡ all k bytes t₀
-      left-full h =
+      pub left-full : {r : Bool} {new : List ℕ} → Comes next (mayReply t) mid r new → r ≡ false → pos + used ≤ length bytes → Comes (all k bytes old) (length bytes / 5) old false new
+      left-full c d h =
           let more = settled-grows k (withInput (drop (pos + used) bytes) next) in
-          let w = ap (λ x. length (x .queue)) taken in
-          sym (ap (λ b. if b then refused 15 (plainOf t₀) else accepted (settled k (withInput bytes (plainOf t₀)))) (lt-ltb 4096 (length (settled k (withInput bytes (plainOf t₀)) .queue)) (omega arith)))
+          record {
+            done = λ x. never x refl;
+            full = λ x. omega (arith, c .full d, more, ap (λ p. length (p .queue)) taken);
+            bound = λ x. omega (arith, c .bound d, l .grown);
+            grows = λ x. never x refl;
+          }
 
-    module _ (long : length (t .queue) ≡ 4096) where
-      -- the queue fits
-      accepts : {p : Plain} → settled k (withInput bytes (plainOf t₀)) ≡ p → p .queue ≡ plainOf t .queue → accepted p ≡ all k bytes t₀
-      accepts {p} w q =
-          sym
-          (ap (λ b. if b then refused 15 (plainOf t₀) else accepted (settled k (withInput bytes (plainOf t₀))))
-          (le-ltb 4096 (length (settled k (withInput bytes (plainOf t₀)) .queue)) (omega (arith, ap (λ x. length (x .queue)) w, ap length q, queue-fits t long)))
-          ∙ ap accepted w)
+    ends : {p : Plain} {new : List ℕ} → pos ≤ length bytes → all k bytes old ≡ p → length (p .queue) ≡ length (now .queue) → Becomes mid p new → Comes (all k bytes old) (length bytes / 5) old true new
+    ends h e q b =
+        record {
+          done = λ x. becomes-as (sym e) (becomes-then (l .becomes) b);
+          full = λ x. never refl x;
+          bound = λ x. never refl x;
+          grows = λ x. omega (arith, ap (λ p. length (p .queue)) e, q, l .grown);
+        }
 
-      -- what is left waits
-      pub left-waits : (new : List ℕ) (n : ℕ) → parse (drop pos bytes) ≡ incomplete → n ≡ length (drop pos bytes) → take (length (drop pos bytes)) new ≡ drop pos bytes
-          → accepted (plainOf (waiting new n t)) ≡ all k bytes t₀
-      unfolding plainOf
-      left-waits new n e m p =
-          let w : settled k (withInput bytes (plainOf t₀)) ≡ withInput (drop pos bytes) (plainOf t) = sym (l .is) ∙ settled-incomplete k (withInput (drop pos bytes) (plainOf t)) e in
-          ap (λ x. accepted (withInput x (plainOf t))) (ap (λ i. take i new) m ∙ p) ∙ accepts w refl
+    -- what is left waits
+    pub left-waits : {new : List ℕ} → pos ≤ length bytes → parse (drop pos bytes) ≡ incomplete → Becomes mid (withInput (drop pos bytes) now) new → Comes (all k bytes old) (length bytes / 5) old true new
+    left-waits h e b = ends h (sym (l .is) ∙ settled-incomplete k (withInput (drop pos bytes) now) e) refl b
 
-      -- all remaining input is discarded
-      pub left-drops : (why : Why) → parse (drop pos bytes) ≡ invalid why → accepted (plainOf (waiting (t .input) 0 t)) ≡ all k bytes t₀
-      unfolding plainOf
-      left-drops why e = accepts (sym (l .is) ∙ settled-invalid k (withInput (drop pos bytes) (plainOf t)) why e) refl
+    -- all remaining input is discarded
+    pub left-drops : {new : List ℕ} (why : Why) → pos ≤ length bytes → parse (drop pos bytes) ≡ invalid why → Becomes mid (withInput [] now) new → Comes (all k bytes old) (length bytes / 5) old true new
+    left-drops why h e b = ends h (sym (l .is) ∙ settled-invalid k (withInput (drop pos bytes) now) why e) refl b
+
+-- ---- or every byte stays
+
+module _ {s : Plain} {n : ℕ} {old new : List ℕ} {r : Bool} (c : Comes s n old r new) where
+  pub comes-done : r ≡ true → ComesOrStays s old true new
+  comes-done e = record { done = λ x. c .done e; full = λ x. never refl x; stays = λ x. never refl x }
+
+  -- put back
+  pub comes-back : r ≡ false → ComesOrStays s old false old
+  comes-back e = record { done = λ x. never x refl; full = λ x. c .full e; stays = λ x. refl }
+
+  -- there is room
+  pub comes-surely : length (imaged old .queue) + 96 * n ≤ 4096 → ComesOrStays s old r new
+  comes-surely h = record { done = c .done; full = c .full; stays = λ x. absurd (omega (arith, c .bound x)) }
 
 -- ---- what parsing said of the bytes from pos on
 
@@ -117,3 +140,16 @@ module _ {rest bs : List ℕ} {o : Outcome} (r : rest ≡ bs) (e : parsedOf rest
 -- a telegram uses some of the bytes, and no more than there are
 pub used-within : (bs : List ℕ) (t : Telegram) (n : ℕ) → parse bs ≡ complete t n → (0 < n) × (n ≤ length bs)
 used-within bs t n e = (used-some bs t n e, parse-back bs t n e .1)
+
+-- one that anybody replies to has five bytes or more
+pub used-five : (bs : List ℕ) (t : Telegram) (n : ℕ) → parse bs ≡ complete t n → 5 * mayReply t ≤ n
+unfolding encode
+used-five bs t n e =
+    let p = parse-back bs t n e in
+    let w : length (encode t) ≡ n = ap length (sym (p .0)) ∙ length-take-le n bs (p .1) in
+    omega (arith, five t)
+  where
+    five : (t : Telegram) → 5 * mayReply t ≤ length (encode t)
+    five ack = omega arith
+    five (short c a) = omega arith
+    five (long c a ci d) = omega arith

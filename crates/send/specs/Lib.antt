@@ -1,4 +1,4 @@
-pub mod OneMeter
 pub mod Send
+pub mod Settle
 pub mod Steps
 pub mod View

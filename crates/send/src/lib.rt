@@ -1,17 +1,22 @@
-// Send: a piece of bytes and the clock, to a segment.
+// Send: a piece of bytes and the clock, to a segment in its image.
 ghost use mathlib.Core.Path.{_≡_};
-ghost use Rattle.bus.specs.View.{plainOf};
-ghost use Rattle.send.specs.Send.{send};
-ghost use Rattle.send.specs.View.{sendingNumber, sentOf};
-use bus::INPUT;
-use bus::Segment;
+ghost use mathlib.Core.List.{_++_};
+ghost use Prim.Native.Nat.{_≤_};
+ghost use lib.ListN.{length};
+ghost use Rattle.bus.specs.Plain.{withInput};
+ghost use Rattle.image.specs.Image.{imaged};
+ghost use Rattle.image.specs.Answers.{DoneImage};
+ghost use Rattle.send.specs.Steps.{settled};
+ghost use Rattle.send.specs.Send.{fitsQueue, send};
+ghost use Rattle.send.specs.View.{sendingNumber};
 use clock::Clock;
 use clock::good_clock;
-use laws::least;
+use image::IMAGE;
+use segment_places::head;
+use segment_places::input;
+use segment_places::input::PIECE;
 
-mod line;
-mod queue;
-mod settle;
+mod settle; // settle.rt: telegrams, one after the other
 
 // What send answers: accepted; 13, 14 and 15 of the places of refusal.
 pub enum Sending {
@@ -32,30 +37,38 @@ pub fn sending_number(answer: Sending) -> u32
     }
 }
 
-pub struct Sent {
-    pub answer: Sending,
-    pub segment: Segment,
+// All these bytes are handled.
+fn send_bytes(image: &mut [u8; IMAGE], bytes: &[u8], clock: Clock) -> Sending
+    ensures { λ r. ⌜ DoneImage (fitsQueue (imaged (now (image .entry))) (settled clock (withInput (now (bytes .entry)) (imaged (now (image .entry)))))) (sendingNumber r) (now (image .entry)) (now (image .exit)) ⌝ }
+{
+    if settle::settle(image, bytes, clock) {
+        return Sending::Accepted;
+    }
+    Sending::QueueFull
 }
 
-// The piece joins the waiting input, and complete telegrams are handled in turn. A refused send changes nothing.
-pub fn send(segment: Segment, piece: &[u8], clock: Clock) -> Sent
-    ensures { λ r. ⌜ sentOf r ≡ send (now (piece .entry)) clock (plainOf segment) ⌝ }
+// The piece joins what waits.
+fn send_joined(image: &mut [u8; IMAGE], piece: &[u8], clock: Clock) -> Sending
+    requires { ⌜ length (now piece) ≤ 1024 ⌝ }
+    ensures { λ r. ⌜ DoneImage (fitsQueue (imaged (now (image .entry))) (settled clock (withInput (imaged (now (image .entry)) .input ++ now (piece .entry)) (imaged (now (image .entry)))))) (sendingNumber r) (now (image .entry)) (now (image .exit)) ⌝ }
 {
-    if line::PIECE < piece.len() {
-        return Sent {
-            answer: Sending::PieceTooLong,
-            segment: segment,
-        };
+    let line = input::with_piece(image, piece);
+    let end = head::waiting_of(image) + piece.len();
+    send_bytes(image, &line[..end], clock)
+}
+
+// The piece joins the waiting input, and complete telegrams are handled in turn. A refused send changes no byte.
+pub fn send(image: &mut [u8; IMAGE], piece: &[u8], clock: Clock) -> Sending
+    ensures { λ r. ⌜ DoneImage (send (now (piece .entry)) clock (imaged (now (image .entry)))) (sendingNumber r) (now (image .entry)) (now (image .exit)) ⌝ }
+{
+    if PIECE < piece.len() {
+        return Sending::PieceTooLong;
     }
     if !good_clock(clock) {
-        return Sent {
-            answer: Sending::ClockOutOfRange,
-            segment: segment,
-        };
+        return Sending::ClockOutOfRange;
     }
-    let waiting = least(segment.waiting, INPUT);
-    let input = segment.input;
-    let bytes = line::line_of(input, waiting, piece);
-    let end = waiting + piece.len();
-    settle::settle(segment, &bytes[..end], clock)
+    if head::waiting_of(image) == 0 {
+        return send_bytes(image, piece, clock);
+    }
+    send_joined(image, piece, clock)
 }

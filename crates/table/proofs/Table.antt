@@ -29,7 +29,8 @@ use Rattle.builtins.specs.Builtins.{ok10, idText}
 use Rattle.bus.specs.Plain.{blank}
 use Rattle.bus.specs.Calls.{afterOpening}
 use Rattle.replies.specs.Replies.{joined}
-use Rattle.send.specs.Steps.{heardBy, handled, steps, settled}
+use Rattle.segment_telegram.specs.Handled.{heardBy, handled}
+use Rattle.send.specs.Steps.{steps, settled}
 use Rattle.send.specs.Send.{send}
 use Rattle.clock.specs.Fields.{goodClock}
 use Rattle.walk.specs.Walk.{one, many, maskDigits, mask, reading, ask, probe, good, idOf, entryOf, read, ten, walk, wholeWalk}

@@ -23,11 +23,11 @@ use Rattle.scenarios.specs.Opening.{capacity}
 use Rattle.bus.specs.Plain.{Plain, withQueue}
 use Rattle.bus.specs.Calls.{Done, accepted}
 use Rattle.replies.specs.Replies.{joined}
-use Rattle.send.specs.Steps.{replies, toAll}
+use Rattle.segment_telegram.specs.Handled.{replies, toAll}
 use Rattle.send.specs.Send.{send}
 use Rattle.clock.specs.Fields.{goodClock}
 use Rattle.replies.proofs.JoinLaws.{joined-acks, count-acks, joined-short}
-use Rattle.send.proofs.RepliesLaws.{replies-keep}
+use Rattle.segment_telegram.proofs.RepliesLaws.{replies-keep}
 use Rattle.send.proofs.SendLaws.{atRest, sentTo, afterSent, send-rest}
 use Rattle.walk.specs.Walk.{mask, reading, ask, probe, entryOf, read}
 use Rattle.walk.specs.Entries.{begins, atBus}

@@ -203,6 +203,9 @@ pub fn run_on(calls: &[Call], other: &mut impl Side, counts: &mut Counts, mut to
         if !library.guarded() {
             return Err("a call wrote beside the image".into());
         }
+        if !library.tidy() {
+            return Err("after the call the image is not the one image of its segment".into());
+        }
         if call.on_segment() {
             let (a, b) = (library.state(), other.state());
             if a != b {

@@ -11,6 +11,7 @@ const METER: usize = 25;
 extern "C" {
     fn segment_image_len() -> usize;
     fn segment_new(image: *mut u8);
+    fn segment_tidy(image: *mut u8);
     fn segment_open(image: *mut u8, list: *const u8, len: usize, baud: u32, practice: bool, origin: f64) -> u32;
     fn segment_send(image: *mut u8, piece: *const u8, len: usize, secs: f64, year: u32, month: u32, day: u32, hour: u32, minute: u32) -> u32;
     fn segment_receive(image: *mut u8, lent: *mut u8, len: usize) -> usize;
@@ -48,6 +49,13 @@ impl Library {
 
     fn image(&mut self) -> *mut u8 {
         self.memory[GUARD..].as_mut_ptr()
+    }
+
+    /// Whether the image is the one image of its segment.
+    pub fn tidy(&self) -> bool {
+        let mut copy = Library { memory: self.memory };
+        unsafe { segment_tidy(copy.image()) };
+        copy.memory == self.memory
     }
 
     pub fn guarded(&self) -> bool {

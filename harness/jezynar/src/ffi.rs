@@ -21,6 +21,7 @@ mod c {
         #[cfg(test)]
         pub fn segment_image_len() -> usize;
         pub fn segment_new(image: *mut u8);
+        pub fn segment_tidy(image: *mut u8);
         pub fn segment_open(
             image: *mut u8,
             list: *const u8,
@@ -73,6 +74,11 @@ mod c {
 pub fn new(image: &mut [u8; IMAGE]) {
     // SAFETY: the image is IMAGE bytes, lent for writing.
     unsafe { c::segment_new(image.as_mut_ptr()) }
+}
+
+pub fn tidy(image: &mut [u8; IMAGE]) {
+    // SAFETY: the image is IMAGE bytes, lent for writing.
+    unsafe { c::segment_tidy(image.as_mut_ptr()) }
 }
 
 pub fn open(image: &mut [u8; IMAGE], list: &[u8], baud: u32, practice: bool, origin: f64) -> u32 {
@@ -141,11 +147,4 @@ pub fn encode(kind: u8, control: u8, address: u8, ci: u8, data: &[u8], lent: &mu
 }
 
 #[cfg(test)]
-mod tests {
-    /// The archive that is linked has the images that this crate lends.
-    #[test]
-    fn the_image_has_the_librarys_length() {
-        // SAFETY: the call takes nothing.
-        assert_eq!(unsafe { super::c::segment_image_len() }, crate::IMAGE);
-    }
-}
+mod tests;

@@ -3,7 +3,7 @@
 //!
 //! A [`Segment`] holds the meters of a list, the bus baud, the waiting input and the queue of replies. It does nothing
 //! by itself: time comes with each call as a [`Clock`]. No call panics, and a refused call changes nothing: neither the
-//! segment nor what was lent. A thread with 128 KiB of stack is enough for every call.
+//! segment nor what was lent. A thread with 64 KiB of stack is enough for every call.
 //!
 //! To build, `JEZYNAR_LIB` names the folder that holds `libjezynar.a`.
 //!
@@ -112,10 +112,11 @@ pub struct Clock {
 /// A simulated segment.
 ///
 /// It is one image of [`IMAGE`] bytes, which [`as_image`](Segment::as_image) shows and
-/// [`from_image`](Segment::from_image) takes back. Segments are equal where their images mean the same: bytes that are
-/// not in use have no part in it, and an origin that is not a number equals itself.
-#[derive(Clone)]
+/// [`from_image`](Segment::from_image) takes back. Each segment has one image, in which bytes that are not in use are 0
+/// and an origin that is not a number has one pattern. So segments are equal where their images are.
+#[derive(Clone, PartialEq, Eq)]
 pub struct Segment {
+    // The one image of the segment: `new`, `tidy` and an accepted `open` write it whole, every other call keeps it so.
     image: Box<[u8; IMAGE]>,
 }
 
@@ -127,12 +128,15 @@ impl Segment {
         Segment { image }
     }
 
-    /// The segment that an image means. Any bytes mean one.
+    /// The segment that an image means. Any bytes mean one. It holds the one image of that segment, which these bytes
+    /// need not be: images that mean the same give equal segments.
     pub fn from_image(image: &[u8; IMAGE]) -> Self {
-        Segment { image: Box::new(*image) }
+        let mut image = Box::new(*image);
+        ffi::tidy(&mut image);
+        Segment { image }
     }
 
-    /// The segment's image, to be kept or handed on. Every accepted call writes 0 to the bytes that are not in use.
+    /// The segment's one image, to be kept or handed on. Bytes that are not in use are 0.
     pub fn as_image(&self) -> &[u8; IMAGE] {
         &self.image
     }
@@ -204,20 +208,6 @@ impl Segment {
         Ok(Summary { entries, probes: u32::from_le_bytes([p0, p1, p2, p3]), spent: spent != 0 })
     }
 }
-
-impl PartialEq for Segment {
-    fn eq(&self, other: &Self) -> bool {
-        // Where nothing is lent, receive changes nothing, and writes the one image that the segment has.
-        let written = |segment: &Segment| {
-            let mut image = segment.image.clone();
-            ffi::receive(&mut image, &mut []);
-            image
-        };
-        self.image == other.image || written(self) == written(other)
-    }
-}
-
-impl Eq for Segment {}
 
 impl Default for Segment {
     /// [`Segment::new`].

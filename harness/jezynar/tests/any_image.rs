@@ -1,7 +1,8 @@
-//! Any bytes are an image: every call answers on them, and keeps its limits.
+//! Segments made of any bytes: every call answers on them, keeps its limits, and leaves the one image of the segment.
+//! (The entry points on such bytes as they are: `src/ffi/tests.rs`.)
 mod common;
 
-use common::{example, opened, two_water, Random, CLOCK, NKE_ALL};
+use common::{example, is_tidy, opened, two_water, Random, CLOCK, NKE_ALL};
 use jezynar::{Segment, IMAGE, METERS};
 
 /// A probe that every id matches, and REQ_UD2 to the selected meters and to all.
@@ -15,6 +16,7 @@ fn call<T, E>(segment: &mut Segment, call: impl FnOnce(&mut Segment) -> Result<T
     let before = *segment.as_image();
     let answer = call(segment).ok();
     assert!(answer.is_some() || *segment.as_image() == before, "a refused call changed the image");
+    assert!(is_tidy(segment), "a call left bytes that are not in use");
     answer
 }
 
@@ -22,6 +24,7 @@ fn receive(segment: &mut Segment) -> usize {
     let mut lent = [0xAA; 40];
     let count = segment.receive(&mut lent);
     assert!(count <= 32 && lent[count..].iter().all(|b| *b == 0xAA));
+    assert!(is_tidy(segment));
     count
 }
 
@@ -43,14 +46,11 @@ fn search(segment: &mut Segment, allowance: u32) -> usize {
 /// Every call, from the image and one after another. How many entries the searches of its own meters gave.
 fn every_call(image: &[u8; IMAGE]) -> usize {
     let from = || Segment::from_image(image);
-    assert!(from().as_image() == image);
-    // A call that changes nothing writes the one image of the segment, and once more the same.
-    let mut written = from();
-    assert_eq!(written.receive(&mut []), 0);
-    assert!(written == from());
-    let kept = written.clone();
-    assert_eq!(written.receive(&mut []), 0);
-    assert!(written.as_image() == kept.as_image());
+    assert!(is_tidy(&from()));
+    // A call that changes nothing leaves the image.
+    let mut kept = from();
+    assert_eq!(kept.receive(&mut []), 0);
+    assert!(kept.as_image() == from().as_image());
     let mut entries = search(&mut from(), u32::MAX);
     call(&mut from(), |s| s.send(&TELEGRAMS, &CLOCK));
     call(&mut from(), |s| s.send(&[0xFF; 1024], &CLOCK));
@@ -62,6 +62,7 @@ fn every_call(image: &[u8; IMAGE]) -> usize {
     let mut segment = from();
     receive(&mut segment);
     segment.clear();
+    assert!(is_tidy(&segment));
     assert_eq!(receive(&mut segment), 0);
     // A byte that starts no telegram discards what waits, if it does not complete it.
     call(&mut segment, |s| s.send(&[0; 261], &CLOCK));

@@ -153,16 +153,17 @@ fn the_longest_search_on_a_thread_of_default_stack() {
 }
 
 #[test]
-fn every_call_on_a_thread_of_128_kib() {
+fn every_call_on_a_thread_of_64_kib() {
     let calls = || {
         let mut segment = opened(&worst_case());
         segment.send(&NKE_ALL.repeat(64), &CLOCK).unwrap();
         assert_eq!(segment.receive(&mut [0; 32]), 32);
         segment.clear();
         segment.set_baud(2400).unwrap();
+        let mut segment = Segment::from_image(segment.as_image());
         (segment.search(&CLOCK, 10_000).unwrap(), segment.search_into(&CLOCK, 1, &mut [Entry::default(); 64]).is_ok())
     };
-    let thread = std::thread::Builder::new().stack_size(128 * 1024).spawn(calls).unwrap();
+    let thread = std::thread::Builder::new().stack_size(64 * 1024).spawn(calls).unwrap();
     assert_eq!(thread.join().unwrap(), (worst(), true));
 }
 

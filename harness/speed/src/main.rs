@@ -1,6 +1,7 @@
-//! The time of the calls as a ratio to the Rust, both in one run and on one thread: many calls inside one entry point of
-//! libtiming.a against as many of the Rust's own. Then what crossing by the image costs, and the stack that a search takes.
+//! The time of the exported calls of libjezynar.a against the Rust's own, both in one run and on one thread, then the stack
+//! that each of them takes.
 //! usage: speed [ROUNDS]; the least of the rounds is taken on either side.
+use library::{Image, ENTRIES, IMAGE, SUMMARY};
 use oracle::link::Link;
 use oracle::mbus::frame::{self, Frame, Parse};
 use oracle::sim::{set_secs, SimMeter, Simulator};
@@ -9,18 +10,8 @@ use reference::{list_bytes, Clock};
 use std::hint::black_box;
 use std::time::{Duration, Instant};
 
+mod library;
 mod stack;
-
-const IMAGE: usize = 5974;
-
-extern "C" {
-    fn segment_new(image: *mut u8);
-    fn segment_open(image: *mut u8, list: *const u8, len: usize, baud: u32, practice: bool, origin: f64) -> u32;
-    fn segment_clear(image: *mut u8);
-    fn timing_sends(image: *mut u8, piece: *const u8, len: usize, secs: f64, year: u32, month: u32, day: u32, hour: u32, minute: u32, times: u32) -> u32;
-    fn timing_opens(image: *mut u8, list: *const u8, len: usize, baud: u32, practice: bool, origin: f64, times: u32) -> u32;
-    fn timing_searches(image: *mut u8, secs: f64, year: u32, month: u32, day: u32, hour: u32, minute: u32, allowance: u32, times: u32) -> u32;
-}
 
 const NOON: Clock = Clock { now: 3_725.5, year: 2026, month: 10, day: 1, hour: 12, minute: 34 };
 
@@ -42,60 +33,114 @@ fn pairs() -> Vec<SimMeter> {
     }))
 }
 
+/// The summary of a search of the pairs: 64 entries, 2,031 probes, the allowance not spent.
+const SEARCHED: [u8; SUMMARY] = [64, 0, 0, 0, 0xEF, 0x07, 0, 0, 0, 0, 0, 0];
+
 fn select(digits: [u8; 4]) -> Vec<u8> {
     let data = vec![digits[3], digits[2], digits[1], digits[0], 0xFF, 0xFF, 0xFF, 0xFF];
     Frame::snd_ud(frame::ADDR_SELECTED, frame::CI_SELECT, data).encode()
 }
 
-fn open(list: &[u8]) -> Box<[u8; IMAGE]> {
+/// SND_NKE to all, so many times: each of 64 meters acknowledges each.
+fn nke_all(times: usize) -> Vec<u8> {
+    Frame::Short { control: frame::C_SND_NKE, address: frame::ADDR_BROADCAST_REPLY }.encode().repeat(times)
+}
+
+fn opened(list: &[SimMeter]) -> Box<Image> {
     let mut image = Box::new([0; IMAGE]);
-    let p = image.as_mut_ptr();
-    unsafe { segment_new(p) };
-    assert_eq!(unsafe { segment_open(p, list.as_ptr(), list.len(), 2400, false, 0.0) }, 0);
+    library::new(&mut image);
+    assert_eq!(library::open(&mut image, &list_bytes(list)), 0);
     image
 }
 
-/// The least time of a call over some rounds, in nanoseconds; `run` makes as many calls as it is told.
-fn time(rounds: u32, calls: u32, mut run: impl FnMut(u32)) -> f64 {
-    let mut least = f64::MAX;
-    for _ in 0..rounds {
-        let begin = Instant::now();
-        run(calls);
-        least = least.min(begin.elapsed().as_secs_f64());
-    }
-    least / calls as f64 * 1e9
-}
-
-fn show(name: &str, ours: f64, rust: f64, goal: f64) {
-    println!("{name:<44} {:>9.0} ns {:>9.0} ns   ratio {:>5.2}   goal {goal:.1}{}", ours, rust, ours / rust, if ours / rust > goal { "   over" } else { "" });
-}
-
-fn sends(rounds: u32, name: &str, list: &[SimMeter], piece: &[u8], goal: f64) {
-    let mut image = open(&list_bytes(list));
-    let c = NOON;
-    let ours = time(rounds, 20_000, |n| {
-        let done = unsafe { timing_sends(image.as_mut_ptr(), piece.as_ptr(), piece.len(), c.now, c.year, c.month, c.day, c.hour, c.minute, n) };
-        assert_eq!(done, n);
-    });
+fn opened_rust(list: &[SimMeter]) -> Simulator {
     set_secs(0.0);
-    let mut sim = Simulator::from_meters(2400, list, false);
-    set_secs(c.now);
-    let rust = time(rounds, 20_000, |n| {
-        for _ in 0..n {
-            sim.send(black_box(piece)).unwrap();
-            sim.clear().unwrap();
-        }
-    });
-    show(name, ours, rust, goal);
+    let sim = Simulator::from_meters(2400, list, false);
+    set_secs(NOON.now);
+    sim
 }
 
-/// The Rust's side of a search: 01's walk over the Rust's own send and receive.
-fn ask(sim: &mut Simulator, f: Frame) -> Vec<u8> {
-    sim.send(&f.encode()).unwrap();
+/// 64 meters and a queue of 64 bytes for each of `times`; 64 of them fill it.
+fn queued(times: usize) -> Box<Image> {
+    let mut image = opened(&many());
+    assert_eq!(library::send(&mut image, &nke_all(times), &NOON), 0);
+    image
+}
+
+fn queued_rust(times: usize) -> Simulator {
+    let mut sim = opened_rust(&many());
+    sim.send(&nke_all(times)).unwrap();
+    sim
+}
+
+fn timed(run: impl FnOnce()) -> Duration {
+    let begin = Instant::now();
+    run();
+    begin.elapsed()
+}
+
+/// The least time of a call over some rounds, in nanoseconds, of the library and of the Rust. A round is the time of so many
+/// calls, a millisecond or two, so that of many rounds some are not disturbed; the sides take turns.
+fn least(rounds: u32, calls: u32, mut ours: impl FnMut() -> Duration, mut rust: impl FnMut() -> Duration) -> [f64; 2] {
+    let mut least = [Duration::MAX; 2];
+    for _ in 0..rounds {
+        least[0] = least[0].min(ours());
+        least[1] = least[1].min(rust());
+    }
+    least.map(|time| time.as_secs_f64() / calls as f64 * 1e9)
+}
+
+fn show(name: &str, [ours, rust]: [f64; 2], goal: f64) {
+    println!("{name:<44} {ours:>9.0} ns {rust:>9.0} ns   ratio {:>5.2}   goal {goal}{}", ours / rust, if ours / rust > goal { "   over" } else { "" });
+}
+
+/// A call that does next to nothing: tens of nanoseconds, whatever the Rust takes.
+fn show_short(name: &str, [ours, rust]: [f64; 2]) {
+    println!("{name:<44} {ours:>9.1} ns {rust:>9.1} ns   goal 100 ns{}", if ours > 100.0 { "   over" } else { "" });
+}
+
+/// A send, and a clear so that the next one finds the queue empty.
+fn sends(rounds: u32, name: &str, list: &[SimMeter], piece: &[u8], goal: f64) {
+    const CALLS: u32 = 1_000;
+    let (mut image, mut sim) = (opened(list), opened_rust(list));
+    assert_eq!(asked(&mut image, piece), asked_rust(&mut sim, piece));
+    let ours = || {
+        timed(|| {
+            let mut accepted = 0;
+            for _ in 0..CALLS {
+                accepted += (library::send(&mut image, piece, &NOON) == 0) as u32;
+                library::clear(&mut image);
+            }
+            assert_eq!(accepted, CALLS);
+        })
+    };
+    let rust = || {
+        timed(|| {
+            for _ in 0..CALLS {
+                sim.send(black_box(piece)).unwrap();
+                sim.clear().unwrap();
+            }
+        })
+    };
+    show(name, least(rounds, CALLS, ours, rust), goal);
+}
+
+/// All replies to a piece.
+fn asked(image: &mut Image, piece: &[u8]) -> Vec<u8> {
+    assert_eq!(library::send(image, piece, &NOON), 0);
+    drained(|buf| library::receive(image, buf))
+}
+
+fn asked_rust(sim: &mut Simulator, piece: &[u8]) -> Vec<u8> {
+    sim.send(piece).unwrap();
+    drained(|buf| sim.recv(buf, Duration::ZERO).unwrap())
+}
+
+fn drained(mut receive: impl FnMut(&mut [u8]) -> usize) -> Vec<u8> {
     let mut out = Vec::new();
     let mut buf = [0; 32];
     loop {
-        let n = sim.recv(&mut buf, Duration::ZERO).unwrap();
+        let n = receive(&mut buf);
         if n == 0 {
             return out;
         }
@@ -103,16 +148,16 @@ fn ask(sim: &mut Simulator, f: Frame) -> Vec<u8> {
     }
 }
 
+/// The Rust's side of a search: 01's walk over the Rust's own send and receive.
 fn probe(sim: &mut Simulator, prefix: &mut Vec<u8>, found: &mut Vec<Vec<u8>>) -> u32 {
     let mut mask = [0xF; 8];
     mask[..prefix.len()].copy_from_slice(prefix);
     let pair = |k: usize| mask[k] * 16 + mask[k + 1];
-    let data = vec![pair(6), pair(4), pair(2), pair(0), 0xFF, 0xFF, 0xFF, 0xFF];
-    let acks = ask(sim, Frame::snd_ud(frame::ADDR_SELECTED, frame::CI_SELECT, data));
+    let acks = asked_rust(sim, &select([pair(0), pair(2), pair(4), pair(6)]));
     let count = acks.iter().filter(|b| **b == frame::ACK).count();
     let mut probes = 1;
     if count == 1 {
-        let reply = ask(sim, Frame::req_ud2(frame::ADDR_SELECTED, false));
+        let reply = asked_rust(sim, &Frame::req_ud2(frame::ADDR_SELECTED, false).encode());
         if let Parse::Complete(Frame::Long { data, .. }, _) = frame::parse(&reply) {
             found.push(data[..4].to_vec());
         }
@@ -127,69 +172,111 @@ fn probe(sim: &mut Simulator, prefix: &mut Vec<u8>, found: &mut Vec<Vec<u8>>) ->
 }
 
 fn search(rounds: u32) {
-    let list = pairs();
-    let mut image = open(&list_bytes(&list));
-    let c = NOON;
-    let ours = time(rounds, 20, |n| {
-        let probes = unsafe { timing_searches(image.as_mut_ptr(), c.now, c.year, c.month, c.day, c.hour, c.minute, u32::MAX, n) };
-        assert_eq!(probes, 2031 * n);
-    });
-    set_secs(0.0);
-    let mut sim = Simulator::from_meters(2400, &list, false);
-    set_secs(c.now);
-    let rust = time(rounds, 20, |n| {
-        for _ in 0..n {
+    let (mut image, mut sim) = (opened(&pairs()), opened_rust(&pairs()));
+    let ours = || {
+        timed(|| {
+            let (mut entries, mut summary) = ([0; ENTRIES], [0; SUMMARY]);
+            assert_eq!(library::search(&mut image, &NOON, &mut entries, &mut summary), 0);
+            assert_eq!(summary, SEARCHED);
+        })
+    };
+    let rust = || {
+        timed(|| {
             let mut found = Vec::new();
             assert_eq!(probe(&mut sim, &mut Vec::new(), &mut found), 2031);
             assert_eq!(black_box(found).len(), 64);
-        }
-    });
-    show("search of 64 meters, 2,031 probes", ours, rust, 0.2);
+        })
+    };
+    show("search of 64 meters, 2,031 probes", least(rounds, 1, ours, rust), 0.15);
 }
 
 /// The Rust opens meters that are read already: its part is `check` of each and the segment anew. The library reads the list's bytes as well.
 fn opening(rounds: u32) {
+    const CALLS: u32 = 100;
     let list = many();
-    let bytes = list_bytes(&list);
-    let mut image = open(&bytes);
-    let ours = time(rounds, 2_000, |n| {
-        let done = unsafe { timing_opens(image.as_mut_ptr(), bytes.as_ptr(), bytes.len(), 2400, false, 0.0, n) };
-        assert_eq!(done, n);
-    });
+    let (mut image, bytes) = (opened(&list), list_bytes(&list));
+    let ours = || timed(|| (0..CALLS).for_each(|_| assert_eq!(library::open(&mut image, &bytes), 0)));
     set_secs(0.0);
-    let rust = time(rounds, 2_000, |n| {
-        for _ in 0..n {
-            for m in black_box(&list) {
-                m.check().unwrap();
+    let rust = || {
+        timed(|| {
+            for _ in 0..CALLS {
+                for m in black_box(&list) {
+                    m.check().unwrap();
+                }
+                black_box(Simulator::from_meters(2400, black_box(&list), false));
             }
-            black_box(Simulator::from_meters(2400, black_box(&list), false));
-        }
-    });
-    show("opening of 64 meters", ours, rust, 1.2);
+        })
+    };
+    show("opening of 64 meters", least(rounds, CALLS, ours, rust), 0.6);
+}
+
+/// So many segments are made ready, untimed, and then timed together, so that reading the clock does not count.
+const COPIES: u32 = 16;
+
+/// Every receive hands out 32 bytes: `times` makes a queue of 64 * `times` bytes, which is taken to its end.
+fn receives(rounds: u32, name: &str, times: usize) {
+    let (image, sim) = (queued(times), queued_rust(times));
+    let calls = times * 2;
+    let mut buf = [0; 32];
+    let ours = || {
+        let mut images = vec![*image; COPIES as usize];
+        timed(|| images.iter_mut().for_each(|image| (0..calls).for_each(|_| assert_eq!(library::receive(image, &mut buf), 32))))
+    };
+    let mut buf = [0; 32];
+    let rust = || {
+        let mut sims: Vec<Simulator> = (0..COPIES).map(|_| sim.copy()).collect();
+        timed(|| sims.iter_mut().for_each(|sim| (0..calls).for_each(|_| assert_eq!(sim.recv(black_box(&mut buf), Duration::ZERO).unwrap(), 32))))
+    };
+    show_short(name, least(rounds, COPIES * calls as u32, ours, rust));
+}
+
+fn clears(rounds: u32, name: &str, times: usize) {
+    let (image, sim) = (queued(times), queued_rust(times));
+    let ours = || {
+        let mut images = vec![*image; COPIES as usize];
+        timed(|| images.iter_mut().for_each(library::clear))
+    };
+    let rust = || {
+        let mut sims: Vec<Simulator> = (0..COPIES).map(|_| sim.copy()).collect();
+        timed(|| black_box(&mut sims).iter_mut().for_each(|sim| sim.clear().unwrap()))
+    };
+    show_short(name, least(rounds, COPIES, ours, rust));
+}
+
+/// A call that can be made again and again on one segment.
+fn again(rounds: u32, name: &str, mut ours: impl FnMut(&mut Image, u32), mut rust: impl FnMut(&mut Simulator, u32)) {
+    const CALLS: u32 = 1_000;
+    let (mut image, mut sim) = (opened(&many()), opened_rust(&many()));
+    let ours = || timed(|| (0..CALLS).for_each(|k| ours(&mut image, k)));
+    let rust = || timed(|| (0..CALLS).for_each(|k| rust(black_box(&mut sim), k)));
+    show_short(name, least(rounds, CALLS, ours, rust));
+}
+
+fn short_calls(rounds: u32) {
+    receives(rounds, "receive of 32 bytes, 64 queued", 1);
+    receives(rounds, "receive of 32 bytes, queue full at first", 64);
+    clears(rounds, "clear, queue empty", 0);
+    clears(rounds, "clear, queue full", 64);
+    let rate = |k: u32| [300, 2400][k as usize % 2];
+    again(rounds, "baud change", |image, k| assert_eq!(library::set_baud(image, rate(k)), 0), |sim, k| sim.set_baud(rate(k)).unwrap());
+    again(rounds, "send of nothing", |image, _| assert_eq!(library::send(image, &[], &NOON), 0), |sim, _| sim.send(black_box(&[])).unwrap());
 }
 
 fn main() {
-    let args: Vec<String> = std::env::args().skip(1).collect();
-    if let [flag, bytes] = &args[..] {
-        assert_eq!(flag, "--stack");
-        return stack::search_on(bytes.parse().expect("a number of bytes"));
-    }
-    let rounds = args.first().map_or(15, |a| a.parse().expect("a number of rounds"));
+    let rounds = std::env::args().nth(1).map_or(300, |a| a.parse().expect("a number of rounds"));
     set_now(Stamp { year: NOON.year as i32, month: NOON.month, day: NOON.day, hour: NOON.hour, minute: NOON.minute });
     println!("{:<44} {:>12} {:>12}", "", "library", "Rust");
     sends(rounds, "select, 64 meters, all answer", &many(), &select([0x12, 0x34, 0xFF, 0xFF]), 0.6);
-    sends(rounds, "select, 64 meters, one answers", &many(), &select([0x12, 0x34, 0x00, 0x97]), 1.2);
-    sends(rounds, "select, 64 meters, none answers", &many(), &select([0x99, 0x99, 0x99, 0x99]), 1.0);
-    sends(rounds, "select, none answers, last digit differs", &many(), &select([0x12, 0x34, 0xFF, 0xFA]), 1.0);
+    sends(rounds, "select, 64 meters, one answers", &many(), &select([0x12, 0x34, 0x00, 0x97]), 0.5);
+    sends(rounds, "select, none answers, first digit differs", &many(), &select([0x99, 0x99, 0x99, 0x99]), 0.5);
+    sends(rounds, "select, none answers, last digit differs", &many(), &select([0x12, 0x34, 0xFF, 0xFA]), 0.5);
     for medium in ["heat", "electricity", "water", "heat_old"] {
         let mut list = many();
         list[63] = SimMeter::new(77, "12345678", "KAM", medium);
-        sends(rounds, &format!("reading, {medium}, one of 64 meters"), &list, &Frame::req_ud2(77, false).encode(), 1.2);
+        sends(rounds, &format!("reading, {medium}, one of 64 meters"), &list, &Frame::req_ud2(77, false).encode(), 0.6);
     }
     opening(rounds);
     search(rounds);
-    let mut image = open(&list_bytes(&many()));
-    let crossing = time(rounds, 20_000, |n| (0..n).for_each(|_| unsafe { segment_clear(image.as_mut_ptr()) }));
-    println!("crossing by the image: {crossing:.0} ns for each call of libjezynar.a (the image read and written, 64 meters)");
-    println!("stack of an opening and a search of 64 meters: {} bytes (goal: at most 524288)", stack::needed());
+    short_calls(rounds);
+    stack::show_all();
 }

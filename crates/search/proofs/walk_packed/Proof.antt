@@ -1,6 +1,6 @@
-use borrow.Author.Needs.{needs}
 use Rattle.scenarios.specs.Opening.{capacity}
 use Rattle.search.proofs.MadeLaws.{walks}
+use borrow.Author.Needs.{needs}
 use Rattle.search.proofs.walk_packed.Statement.{statement}
 use Rattle.search.proofs.walk_packed.Tie as tie
 
@@ -25,11 +25,13 @@ least-requires c κs = search needs
 returns : tie.Need-returns
 unfolding capacity
 returns c =
-    let w = c .before .before .before .before .before in
+    let u = c .before .before in
+    let w = u .before .before .before .before in
     let m = w .before in
-    let s = m .before .before .before in
-    walks (s .args .segment) (s .args .allowance) (w .walk-all .result) _ _ _ _ _ (m .before .keys-of .ensures) (m .marks-of .ensures .0) (m .marks-of .ensures .1)
-    (w .walk-all .ensures) (c .before .before .unmark-all .ensures) (c .before .records-of .ensures) (c .least .ensures) (m .marks-of .ensures .2)
+    let k = m .before .before in
+    let a = k .before .before .args in
+    walks (a .image .now) _ (a .allowance) (w .walk-all .result) _ _ _ _ (k .keys-of .ensures) (m .marks-of .ensures .0) (m .marks-of .ensures .1) (w .walk-all .ensures)
+    (u .unmark-all .ensures) (c .before .records-of .ensures) (c .least .ensures)
 
 pub walk-packed-spec : {M : Type 1} → statement M
 walk-packed-spec =

@@ -15,14 +15,11 @@ clock-of : tie.Start → Clock
 clock-of s = let a = s .args in record { now = a .secs; year = a .year; month = a .month; day = a .day; hour = a .hour; minute = a .minute }
 
 -- how many places the entries have
-long-entries : (c : tie.After-search-core) → length (c .search-core .result .entries) ≡ mostMeters
+long-entries : (c : tie.After-search-in) → length (c .search-in .result .entries) ≡ mostMeters
 long-entries c = search (needs, length-mapped)
 
-read-image-requires : tie.Need-read-image-requires
-read-image-requires c κs = search needs
-
-search-core-requires : tie.Need-search-core-requires
-search-core-requires c κs = search needs
+search-in-requires : tie.Need-search-in-requires
+search-in-requires c κs = search needs
 
 outcome-number-requires : tie.Need-outcome-number-requires
 outcome-number-requires c κs = search needs
@@ -31,11 +28,10 @@ returns : tie.Need-returns
 unfolding clock-of
 returns c =
     let n = c .before in
-    let d = n .before in
-    let i = d .before in
-    let s = i .before .before .before in
+    let f = n .before in
+    let s = f .before .before .before in
     let a = s .args in
-    search-refused (clock-of s) (a .allowance) (a .entries .now) (a .image .now) (i .read-image .result) (i .read-image .ensures) (d .search-core .result) (d .search-core .ensures)
+    search-refused (clock-of s) (a .allowance) (a .entries .now) (a .image .now) _ (f .search-in .result) (f .search-in .ensures)
     (n .outcome-number .result) (a .summary .now) (n .outcome-number .ensures) (omega (arith, c .if1 .taken))
 
 put-entries-requires : tie.Need-put-entries-requires
@@ -44,36 +40,29 @@ put-entries-requires c κs = search needs
 summary-of-requires : tie.Need-summary-of-requires
 summary-of-requires c κs = search needs
 
-write-image-requires : tie.Need-write-image-requires
-write-image-requires c κs = search needs
-
 same-length : tie.Need-same-length
 same-length c = search needs
 
 returns-2 : tie.Need-returns-2
 unfolding clock-of
 returns-2 c =
-    let u = c .before .before .before in
-    let p = u .before .before .before in
+    let p = c .before .before .before in
     let e = p .before .before .before in
     let n = e .before in
-    let d = n .before in
-    let i = d .before in
-    let s = i .before .before .before in
+    let f = n .before in
+    let s = f .before .before .before in
     let a = s .args in
-    search-made (clock-of s) (a .allowance) (a .entries .now) (a .image .now) (i .read-image .result) (i .read-image .ensures) (d .search-core .result) (d .search-core .ensures)
-    _ _ (a .summary .now) _ (sym (e .if1 .left) ∙ n .outcome-number .ensures) (c .write-image .ensures) (long-entries d) (p .put-entries .ensures) (u .summary-of .ensures)
+    search-made (clock-of s) (a .allowance) (a .entries .now) (a .image .now) _ (f .search-in .result) (f .search-in .ensures)
+    _ (a .summary .now) _ (sym (e .if1 .left) ∙ n .outcome-number .ensures) (long-entries f) (p .put-entries .ensures) (c .summary-of .ensures)
 
 pub search-image-spec : {M : Type 1} → statement M
 search-image-spec =
     tie.close
     (tie.spec
-    read-image-requires
-    search-core-requires
+    search-in-requires
     outcome-number-requires
     returns
     put-entries-requires
     summary-of-requires
-    write-image-requires
     same-length
     returns-2)

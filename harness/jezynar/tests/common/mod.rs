@@ -45,6 +45,11 @@ pub fn worst_case() -> Vec<u8> {
     list::write(&meters).expect("a list")
 }
 
+/// Whether what a segment holds is its one image: to tidy it once more changes nothing.
+pub fn is_tidy(segment: &Segment) -> bool {
+    Segment::from_image(segment.as_image()).as_image() == segment.as_image()
+}
+
 /// All queued bytes.
 pub fn take(segment: &mut Segment) -> Vec<u8> {
     let mut out = Vec::new();

@@ -1,36 +1,35 @@
-use mathlib.Core.Path.{_≡_, refl, ap, _∙_}
-use mathlib.Core.List.{_++_, map}
-use Prim.Native.Nat.{_-_, _≤_, min}
+use mathlib.Core.Path.{_≡_}
+use Prim.Native.Nat.{_-_, _≤_}
 use native.Mathlib.Omega.{arith}
 use borrow.Author.Needs.{needs}
-use lib.ListN.{length, take, drop}
-use Rattle.scenarios.specs.Opening.{capacity}
-use Rattle.search.specs.Packing.{keyOf, packed}
-use Rattle.search.proofs.PackLaws.{Mapped, mapped-none, mapped-more, mapped-all}
+use lib.ListN.{length}
+use Rattle.image.specs.Image.{imaged}
+use Rattle.segment_places.proofs.PlaceLaws.{meters-few}
+use Rattle.search.specs.Packing.{keyOf}
+use Rattle.search.proofs.PackLaws.{Mapped, mapped-none, packed-more, packed-all}
 use Rattle.search.proofs.pack.keys_of.Statement.{statement}
 use Rattle.search.proofs.pack.keys_of.Tie as tie
 
 abbrev Inv-loop : tie.InvT-loop
-Inv-loop count meters keys₀ end i₀ keys i = (i ≤ end) × (end ≤ capacity) × (length meters ≡ capacity) × (length keys₀ ≡ capacity) × Mapped keyOf keys₀ meters i keys
+Inv-loop image keys₀ end i₀ keys i = (i ≤ end) × (end ≤ 64) × (end ≡ length (imaged image .meters)) × (length keys₀ ≡ 64) × Mapped keyOf keys₀ (imaged image .meters) i keys
 
 abbrev μ-loop : tie.MeasureT-loop
-μ-loop count meters keys₀ end i₀ keys i = end - i
+μ-loop image keys₀ end i₀ keys i = end - i
 
 zeros-requires : tie.Need-zeros-requires Inv-loop μ-loop
 zeros-requires c κs = tt
 
-least-requires : tie.Need-least-requires Inv-loop μ-loop
-least-requires c κs = tt
+count-of-requires : tie.Need-count-of-requires Inv-loop μ-loop
+count-of-requires c κs = tt
 
 loop-holds : tie.Need-loop-holds Inv-loop μ-loop
-unfolding capacity
-loop-holds c = (omega arith, omega arith, search needs, search needs, mapped-none)
+loop-holds c = (omega arith, omega (arith, meters-few (c .before .before .args .image .now)), c .count-of .ensures, search needs, mapped-none)
 
-mul-m : tie.Need-mul-m Inv-loop μ-loop
-mul-m c = omega arith
+meter-at-requires : tie.Need-meter-at-requires Inv-loop μ-loop
+meter-at-requires c κs = tt
 
-array-copy-out-m : tie.Need-array-copy-out-m Inv-loop μ-loop
-array-copy-out-m c = omega arith
+key-of-requires : tie.Need-key-of-requires Inv-loop μ-loop
+key-of-requires c κs = tt
 
 mul-keys : tie.Need-mul-keys Inv-loop μ-loop
 mul-keys c = omega arith
@@ -46,14 +45,15 @@ loop-less c = omega arith
 
 loop-again : tie.Need-loop-again Inv-loop μ-loop
 loop-again c =
-    let l = c .before .before in
-    (omega arith, l .loop .inv .1, l .loop .inv .2, l .loop .inv .3, mapped-more (l .loop .inv .4) _ (omega arith) (omega arith) refl)
+    let m = c .before in
+    let l = m .before .before in
+    let inv = l .loop .inv in
+    (omega arith, inv .1, inv .2, inv .3, packed-more (l .before .before .before .args .image .now) (inv .4) (m .meter-at .result) (omega arith) (omega arith) (m .meter-at .ensures) (c .key-of .ensures))
 
 returns : tie.Need-returns Inv-loop μ-loop
-unfolding packed
 returns c =
     let l = c .before in
-    mapped-all (l .loop .inv .4) (min (l .before .before .before .args .count) capacity) (omega arith) ∙ ap (λ d. take (min (l .before .before .before .args .count) capacity) (map keyOf (l .before .before .before .args .t1)) ++ drop (min (l .before .before .before .args .count) capacity) d) (l .before .before .zeros .ensures)
+    packed-all (l .before .before .before .args .image .now) (l .loop .inv .4) (omega arith) (l .before .before .zeros .ensures)
 
 pub keys-of-spec : {M : Type 1} → statement M
 keys-of-spec =
@@ -62,10 +62,10 @@ keys-of-spec =
     Inv-loop
     μ-loop
     zeros-requires
-    least-requires
+    count-of-requires
     loop-holds
-    mul-m
-    array-copy-out-m
+    meter-at-requires
+    key-of-requires
     mul-keys
     array-write-keys
     add-i

@@ -1,5 +1,6 @@
+use Rattle.meter.specs.View.{plainMeter}
 use native.Mathlib.Omega.{arith}
-use Rattle.search.proofs.PackLaws.{mark-here, mark-away}
+use Rattle.search.proofs.PackLaws.{mark-here, mark-away, meter-bounded}
 use borrow.Author.Needs.{needs}
 use Rattle.search.proofs.pack.mark_of.Statement.{statement}
 use Rattle.search.proofs.pack.mark_of.Tie as tie
@@ -44,14 +45,14 @@ returns : tie.Need-returns
 returns c =
     let b = c .before .before .before .before in
     let s = b .before .before .before in (
-      mark-here (s .args .bus) (s .args .m) (b .before .if1 .taken) _ _ _ (b .bit .ensures .0) (c .before .before .before .bit2 .ensures .0) (c .before .before .fault-bits .ensures .0),
-      record { id = search needs; access = omega (arith, b .before .before .struct-known .given .1 .1 .1 .1 .1 .1 .1 .0); readouts = omega (arith, b .before .before .struct-known .given .1 .1 .1 .1 .1 .1 .1 .1 .1 .1 .1 .1 .0) },
+      mark-here (s .args .bus) (plainMeter (s .args .m)) (b .before .if1 .taken) _ _ _ (b .bit .ensures .0) (c .before .before .before .bit2 .ensures .0) (c .before .before .fault-bits .ensures .0),
+      meter-bounded (s .args .m) (search needs) (omega (arith, b .before .before .struct-known .given .1 .1 .1 .1 .1 .1 .1 .0)) (omega (arith, b .before .before .struct-known .given .1 .1 .1 .1 .1 .1 .1 .1 .1 .1 .1 .1 .0)),
     )
 
 returns-2 : tie.Need-returns-2
 returns-2 c =
     let s = c .before .before in
-    (mark-away (s .args .bus) (s .args .m) (c .if1 .left), record { id = search needs; access = search needs; readouts = search needs })
+    (mark-away (s .args .bus) (plainMeter (s .args .m)) (c .if1 .left), meter-bounded (s .args .m) (search needs) (search needs) (search needs))
 
 pub mark-of-spec : {M : Type 1} → statement M
 mark-of-spec =

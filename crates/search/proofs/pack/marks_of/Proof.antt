@@ -1,37 +1,41 @@
-use mathlib.Core.Path.{_≡_, ap, _∙_, subst}
-use mathlib.Core.List.{_++_, map}
-use Prim.Native.Nat.{_-_, _≤_, min}
+use mathlib.Core.Path.{_≡_, ap, _∙_}
+use Prim.Native.Nat.{_-_, _≤_}
 use native.Mathlib.Omega.{arith}
 use borrow.Author.Needs.{needs}
-use lib.ListN.{length, take, drop}
+use lib.ListN.{length, take}
 use Rattle.laws.specs.Words.{Every}
-use Rattle.scenarios.specs.Opening.{capacity}
-use Rattle.search.specs.Packing.{markOf, Bounded, packed}
-use Rattle.search.proofs.PackLaws.{Mapped, mapped-none, mapped-more, mapped-all, every-more}
+use Rattle.meter.specs.View.{plainMeter}
+use Rattle.image.specs.Image.{imaged}
+use Rattle.segment_places.proofs.PlaceLaws.{meters-few}
+use Rattle.search.specs.Packing.{markOf, Bounded}
+use Rattle.search.proofs.PackLaws.{Mapped, mapped-none, packed-more, packed-all, read-more, read-all}
 use Rattle.search.proofs.pack.marks_of.Statement.{statement}
 use Rattle.search.proofs.pack.marks_of.Tie as tie
 
 abbrev Inv-loop : tie.InvT-loop
-Inv-loop count bus meters marks₀ end i₀ marks i = (i ≤ end) × (end ≤ capacity) × (length meters ≡ capacity) × (length marks₀ ≡ capacity) × Mapped (markOf bus) marks₀ meters i marks × Every Bounded (take i meters)
+Inv-loop image marks₀ end bus i₀ marks i =
+    (i ≤ end) × (end ≤ 64) × (end ≡ length (imaged image .meters)) × (length marks₀ ≡ 64) × Mapped (markOf (imaged image .baud)) marks₀ (imaged image .meters) i marks
+    × Every Bounded (take i (imaged image .meters))
 
 abbrev μ-loop : tie.MeasureT-loop
-μ-loop count bus meters marks₀ end i₀ marks i = end - i
+μ-loop image marks₀ end bus i₀ marks i = end - i
 
 zeros-requires : tie.Need-zeros-requires Inv-loop μ-loop
 zeros-requires c κs = tt
 
-least-requires : tie.Need-least-requires Inv-loop μ-loop
-least-requires c κs = tt
+count-of-requires : tie.Need-count-of-requires Inv-loop μ-loop
+count-of-requires c κs = tt
+
+baud-of-requires : tie.Need-baud-of-requires Inv-loop μ-loop
+baud-of-requires c κs = tt
 
 loop-holds : tie.Need-loop-holds Inv-loop μ-loop
-unfolding capacity
-loop-holds c = (omega arith, omega arith, search needs, search needs, mapped-none, tt)
+loop-holds c =
+    let n = c .before in
+    (omega arith, omega (arith, meters-few (n .before .before .args .image .now)), n .count-of .ensures, search needs, mapped-none, tt)
 
-mul-m : tie.Need-mul-m Inv-loop μ-loop
-mul-m c = omega arith
-
-array-copy-out-m : tie.Need-array-copy-out-m Inv-loop μ-loop
-array-copy-out-m c = omega arith
+meter-at-requires : tie.Need-meter-at-requires Inv-loop μ-loop
+meter-at-requires c κs = tt
 
 mark-of-requires : tie.Need-mark-of-requires Inv-loop μ-loop
 mark-of-requires c κs = tt
@@ -50,23 +54,27 @@ loop-less c = omega arith
 
 loop-again : tie.Need-loop-again Inv-loop μ-loop
 loop-again c =
-    let l = c .before .before .before in (
+    let m = c .before in
+    let l = m .before .before in
+    let inv = l .loop .inv in
+    let b = l .before in
+    let image = b .before .before .before .args .image .now in
+    let r = m .meter-at .result in
+    let there = m .meter-at .ensures in (
       omega arith,
-      l .loop .inv .1,
-      l .loop .inv .2,
-      l .loop .inv .3,
-      mapped-more (l .loop .inv .4) _ (omega arith) (omega arith) (c .mark-of .ensures .0),
-      every-more Bounded (l .before .before .before .args .t1) (l .loop .i) _ (omega arith) (l .loop .inv .5) (c .mark-of .ensures .1),
+      inv .1,
+      inv .2,
+      inv .3,
+      packed-more image (inv .4) r (omega arith) (omega arith) there (c .mark-of .ensures .0 ∙ ap (λ bus. markOf bus (plainMeter r)) (b .baud-of .ensures)),
+      read-more image Bounded (l .loop .i) (inv .5) r (omega arith) there (c .mark-of .ensures .1),
     )
 
 returns : tie.Need-returns Inv-loop μ-loop
-unfolding packed
 returns c =
     let l = c .before in
-    let s = l .before .before .before in
-    let n = min (s .args .count) capacity in
-    let e : l .loop .i ≡ n = omega arith in
-    (mapped-all (l .loop .inv .4) n e ∙ ap (λ d. take n (map (markOf (s .args .bus)) (s .args .t1)) ++ drop n d) (l .before .before .zeros .ensures), subst (λ j. Every Bounded (take j (s .args .t1))) e (l .loop .inv .5), l .loop .inv .2)
+    let z = l .before .before .before in
+    let image = z .before .args .image .now in
+    (packed-all image (l .loop .inv .4) (omega arith) (z .zeros .ensures), read-all image Bounded (l .loop .i) (l .loop .inv .5) (omega arith))
 
 pub marks-of-spec : {M : Type 1} → statement M
 marks-of-spec =
@@ -75,10 +83,10 @@ marks-of-spec =
     Inv-loop
     μ-loop
     zeros-requires
-    least-requires
+    count-of-requires
+    baud-of-requires
     loop-holds
-    mul-m
-    array-copy-out-m
+    meter-at-requires
     mark-of-requires
     mul-marks
     array-write-marks

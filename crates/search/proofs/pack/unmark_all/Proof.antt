@@ -1,31 +1,35 @@
-use mathlib.Core.Path.{_≡_}
-use Prim.Native.Nat.{_-_, _≤_, min}
+use mathlib.Core.Path.{_≡_, ap, _∙_}
+use Prim.Native.Nat.{_-_, _≤_}
 use native.Mathlib.Omega.{arith}
 use borrow.Author.Needs.{needs}
-use lib.ListN.{length, length-set}
-use Rattle.scenarios.specs.Opening.{capacity}
+use lib.ListN.{length, getD}
+use Rattle.meter.specs.View.{plainMeter}
+use Rattle.image.specs.Image.{imaged}
+use Rattle.segment_places.proofs.PlaceLaws.{meters-few}
+use Rattle.search.specs.Packing.{seenAs}
 use Rattle.search.proofs.PackLaws.{Unmarked, unmarked-none, unmarked-more, unmarked-all}
 use Rattle.search.proofs.pack.unmark_all.Statement.{statement}
 use Rattle.search.proofs.pack.unmark_all.Tie as tie
 
 abbrev Inv-loop : tie.InvT-loop
-Inv-loop count bus marks ms₀ end i₀ ms i = (i ≤ end) × (end ≤ capacity) × (length marks ≡ capacity) × (length ms₀ ≡ capacity) × (length ms ≡ capacity) × Unmarked bus marks ms₀ i ms
+Inv-loop image₀ marks end bus i₀ image i = (i ≤ end) × (end ≤ 64) × (end ≡ length (imaged image₀ .meters)) × (length marks ≡ 64) × Unmarked marks image₀ i image
 
 abbrev μ-loop : tie.MeasureT-loop
-μ-loop count bus marks ms₀ end i₀ ms i = end - i
+μ-loop image₀ marks end bus i₀ image i = end - i
 
-least-requires : tie.Need-least-requires Inv-loop μ-loop
-least-requires c κs = tt
+count-of-requires : tie.Need-count-of-requires Inv-loop μ-loop
+count-of-requires c κs = tt
+
+baud-of-requires : tie.Need-baud-of-requires Inv-loop μ-loop
+baud-of-requires c κs = tt
 
 loop-holds : tie.Need-loop-holds Inv-loop μ-loop
-unfolding capacity
-loop-holds c = (omega arith, omega arith, search needs, search needs, search needs, unmarked-none)
+loop-holds c =
+    let n = c .before .before in
+    (omega arith, omega (arith, meters-few (n .before .before .args .image .now)), n .count-of .ensures, search needs, unmarked-none)
 
-mul-m : tie.Need-mul-m Inv-loop μ-loop
-mul-m c = omega arith
-
-array-copy-out-m : tie.Need-array-copy-out-m Inv-loop μ-loop
-array-copy-out-m c = omega arith
+meter-at-requires : tie.Need-meter-at-requires Inv-loop μ-loop
+meter-at-requires c κs = tt
 
 mul-unmark : tie.Need-mul-unmark Inv-loop μ-loop
 mul-unmark c = omega arith
@@ -36,11 +40,8 @@ array-read-unmark c = omega arith
 unmark-requires : tie.Need-unmark-requires Inv-loop μ-loop
 unmark-requires c κs = tt
 
-mul-ms : tie.Need-mul-ms Inv-loop μ-loop
-mul-ms c = omega arith
-
-array-set-from-ms : tie.Need-array-set-from-ms Inv-loop μ-loop
-array-set-from-ms c = omega arith
+put-meter-requires : tie.Need-put-meter-requires Inv-loop μ-loop
+put-meter-requires c κs = tt
 
 add-i : tie.Need-add-i Inv-loop μ-loop
 add-i c = omega arith
@@ -50,11 +51,23 @@ loop-less c = omega arith
 
 loop-again : tie.Need-loop-again Inv-loop μ-loop
 loop-again c =
-    let l = c .before .before .before in
-    (omega arith, l .loop .inv .1, l .loop .inv .2, l .loop .inv .3, rw length-set (l .loop .inv .4), unmarked-more _ _ (l .loop .inv .5) (omega arith) (omega arith) (c .unmark .ensures))
+    let k = c .before .before in
+    let m = k .before in
+    let l = m .before .before .before in
+    let inv = l .loop .inv in
+    let b = l .before in
+    let marks = b .before .before .before .before .args .t2 in
+    let r = m .meter-at .result in (
+      omega arith,
+      inv .1,
+      inv .2,
+      inv .3,
+      unmarked-more (inv .4) r (k .unmark .result) (omega arith) (omega arith) (m .meter-at .ensures)
+          (k .unmark .ensures ∙ ap (λ bus. seenAs bus (plainMeter r) (getD marks (l .loop .i) 0)) (b .baud-of .ensures)) (c .put-meter .ensures),
+    )
 
 returns : tie.Need-returns Inv-loop μ-loop
-returns c = unmarked-all (min (c .before .before .before .args .count) capacity) (c .before .loop .inv .5) (omega arith)
+returns c = unmarked-all (c .before .loop .inv .4) (omega arith)
 
 pub unmark-all-spec : {M : Type 1} → statement M
 unmark-all-spec =
@@ -62,15 +75,14 @@ unmark-all-spec =
     (tie.spec
     Inv-loop
     μ-loop
-    least-requires
+    count-of-requires
+    baud-of-requires
     loop-holds
-    mul-m
-    array-copy-out-m
+    meter-at-requires
     mul-unmark
     array-read-unmark
     unmark-requires
-    mul-ms
-    array-set-from-ms
+    put-meter-requires
     add-i
     loop-less
     loop-again

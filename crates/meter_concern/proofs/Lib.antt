@@ -1,0 +1,2 @@
+pub mod ConcernLaws
+pub mod SeekLaws

@@ -1,0 +1,2 @@
+pub mod Concern
+pub mod Seeking

@@ -1,0 +1,27 @@
+-- Receive and clear on an image, from what their parts did.
+use mathlib.Core.Path.{ap, ap₂, _∙_}
+use mathlib.Core.List.{List, [], _++_}
+use Prim.Native.Nat.{ℕ}
+use lib.ListN.{take, drop}
+use Rattle.bus.specs.Plain.{withQueue}
+use Rattle.bus.specs.Calls.{clear, receive}
+use Rattle.image.specs.Image.{imaged}
+use Rattle.image.specs.Answers.{receivedBy, ReceivedImage, LeftImage}
+use Rattle.segment_places.specs.Becomes.{Becomes, HandsOut}
+use Rattle.segment_places.proofs.Becoming.{becomes-exact}
+
+pub received : (l lent : List ℕ) {n : ℕ} {out new : List ℕ} → HandsOut 32 (imaged l .queue) lent n out → Becomes l (withQueue (drop n (imaged l .queue)) (imaged l)) new
+    → ReceivedImage (receive lent (imaged l)) n out l new
+unfolding receive receivedBy
+received l lent {n} {out} {new} h b =
+    let s = imaged l in
+    record {
+      answer =
+          ap₂ (λ x t. record { count = n; lent = x; segment = t }) (h .given) (b .means)
+          ∙ ap (λ k. record { count = k; lent = take k (s .queue) ++ drop k lent; segment = withQueue (drop k (s .queue)) s }) (h .count);
+      exact = becomes-exact b;
+    }
+
+pub cleared : {old new : List ℕ} → Becomes old (withQueue [] (imaged old)) new → LeftImage (clear (imaged old)) old new
+unfolding clear
+cleared b = record { segment = b .means; exact = becomes-exact b }

@@ -1,0 +1,3 @@
+pub mod BaudLaws
+pub mod CallLaws
+pub mod OpenLaws

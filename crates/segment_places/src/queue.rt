@@ -1,0 +1,98 @@
+// What is queued, in an image.
+ghost use mathlib.Core.Path.{_≡_};
+ghost use mathlib.Core.List.{[], _++_};
+ghost use Prim.Native.Nat.{_+_, _≤_};
+ghost use lib.ListN.{length, take, drop, replicate};
+ghost use lib.Seq.{paste};
+ghost use Rattle.bus.specs.Plain.{withQueue};
+ghost use Rattle.image.specs.Image.{imaged};
+ghost use Rattle.segment_places.specs.Becomes.{Becomes, Queues, HandsOut};
+use crate::bytes;
+use crate::head;
+use bus::QUEUE;
+use image::IMAGE;
+use image::QUEUE_AT;
+use image::QUEUED_AT;
+use laws::least;
+
+// Some bytes behind those queued, if there is room for them.
+pub fn append(image: &mut [u8; IMAGE], more: &[u8]) -> bool
+    ensures { λ r. ⌜ Queues (now (more .entry)) (now (image .entry)) r (now (image .exit)) ⌝ }
+{
+    let queued = head::queued_of(image);
+    if QUEUE - queued < more.len() {
+        return false;
+    }
+    bytes::put(image, QUEUE_AT + queued, more);
+    bytes::put_two(image, QUEUED_AT, queued + more.len());
+    true
+}
+
+// n times the byte b behind those queued, if there is room for them.
+pub fn append_same(image: &mut [u8; IMAGE], n: usize, b: u8) -> bool
+    ensures { λ r. ⌜ Queues (replicate n b) (now (image .entry)) r (now (image .exit)) ⌝ }
+{
+    let queued = head::queued_of(image);
+    if QUEUE - queued < n {
+        return false;
+    }
+    bytes::fill(image, QUEUE_AT + queued, n, b);
+    bytes::put_two(image, QUEUED_AT, queued + n);
+    true
+}
+
+// All that is queued is gone.
+pub fn empty(image: &mut [u8; IMAGE])
+    ensures { λ _. ⌜ Becomes (now (image .entry)) (withQueue [] (imaged (now (image .entry)))) (now (image .exit)) ⌝ }
+{
+    let queued = head::queued_of(image);
+    bytes::fill(image, QUEUE_AT, queued, 0);
+    bytes::put_two(image, QUEUED_AT, 0)
+}
+
+// m bytes of the queue, from n on, go to its front.
+fn shift(image: &mut [u8], n: usize, m: usize)
+    requires { ⌜ 278 + n + m ≤ length (now image) ⌝ }
+    ensures { λ _. ⌜ now (image .exit) ≡ paste (now (image .entry)) 278 (drop (278 + n) (now (image .entry))) m ⌝ }
+{
+    let mut j: usize = 0;
+    while j < m {
+        image[QUEUE_AT + j] = image[QUEUE_AT + n + j];
+        j += 1;
+    }
+}
+
+fn shorten(image: &mut [u8; IMAGE], n: usize, queued: usize)
+    requires { ⌜ (queued ≡ length (imaged (now image) .queue)) × (n ≤ queued) ⌝ }
+    ensures { λ _. ⌜ Becomes (now (image .entry)) (withQueue (drop n (imaged (now (image .entry)) .queue)) (imaged (now (image .entry)))) (now (image .exit)) ⌝ }
+{
+    let m = queued - n;
+    shift(image, n, m);
+    bytes::fill(image, QUEUE_AT + m, n, 0);
+    bytes::put_two(image, QUEUED_AT, m)
+}
+
+// The first n of the queued bytes are gone.
+pub fn take_out(image: &mut [u8; IMAGE], n: usize)
+    ensures { λ _. ⌜ Becomes (now (image .entry)) (withQueue (drop n (imaged (now (image .entry)) .queue)) (imaged (now (image .entry)))) (now (image .exit)) ⌝ }
+{
+    let queued = head::queued_of(image);
+    shorten(image, least(n, queued), queued)
+}
+
+fn copy_out(image: &[u8; IMAGE], n: usize, lent: &mut [u8])
+    requires { ⌜ (n ≤ length (imaged (now image) .queue)) × (n ≤ length (now lent)) ⌝ }
+    ensures { λ _. ⌜ now (lent .exit) ≡ take n (imaged (now (image .entry)) .queue) ++ drop n (now (lent .entry)) ⌝ }
+{
+    let whole = &image[..];
+    bytes::put(lent, 0, &whole[QUEUE_AT..QUEUE_AT + n])
+}
+
+// The first of the queued bytes, at most so many and no more than are lent, become the first of what is lent; how many.
+pub fn hand_out(image: &[u8; IMAGE], most: usize, lent: &mut [u8]) -> usize
+    ensures { λ r. ⌜ HandsOut most (imaged (now (image .entry)) .queue) (now (lent .entry)) r (now (lent .exit)) ⌝ }
+{
+    let n = least(most, least(lent.len(), head::queued_of(image)));
+    copy_out(image, n, lent);
+    n
+}

@@ -1,0 +1,4 @@
+pub mod HandleLaws
+pub mod RepliesLaws
+pub mod Slips
+pub mod SweepLaws

@@ -1,0 +1,3 @@
+pub mod Comes
+pub mod Handled
+pub mod Sweep
