@@ -4,10 +4,10 @@
 ghost use mathlib.Core.Path.{_≡_};
 ghost use Prim.Native.Nat.{ℕ, _≤_};
 ghost use lib.ListN.{length};
+ghost use Rattle.laws.specs.Words.{within};
 ghost use Rattle.scenarios.specs.Opening.{capacity};
 ghost use Rattle.packed.specs.Marks.{yesOf, hearsOf, marked, masked, acked, readoutsIn, readMark, readKey, readBy, sweptBy, foldBy};
 use laws::bit;
-use laws::is_within;
 use scenarios::METERS;
 
 // 1 where the meter answers a telegram; put is 1 where the telegram is put to it.
@@ -38,10 +38,18 @@ fn mask_mark(mark: u32, put: u32) -> u32
     mark / 16 * 16 + clear % 2 * 8 + hears * 4 + fresh % 2 * 2 + yes
 }
 
+// Both ends are within. One comparison: below the lower end the difference wraps to more than the upper end allows.
+fn is_between(low: u32, high: u32, x: u32) -> bool
+    requires { ⌜ low ≤ high ⌝ }
+    ensures { λ r. ⌜ r ≡ within low high x ⌝ }
+{
+    std::num::wrapping_sub_u32(x, low) <= high - low
+}
+
 // The mask of the ids from low to high is sent: how many acknowledge it.
 // This is 01's probe of the segment that keys and marks stand for (search, proofs/PackedProbe.antt, `probe-packed`).
 pub(crate) fn send_mask(keys: &[u32; METERS], marks: &mut [u32; METERS], low: u32, high: u32) -> u32
-    requires { ⌜ (length (now keys) ≡ capacity) × (length (now marks) ≡ capacity) ⌝ }
+    requires { ⌜ (length (now keys) ≡ capacity) × (length (now marks) ≡ capacity) × (low ≤ high) ⌝ }
     ensures { λ r. ⌜ (now (marks .exit) ≡ sweptBy (masked low high) capacity (now (keys .entry)) (now (marks .entry)))
         × (r ≡ foldBy (acked low high) 0 capacity (now (keys .entry)) (now (marks .entry))) × (r ≤ capacity) × (length (now (marks .exit)) ≡ capacity) ⌝ }
 {
@@ -49,7 +57,7 @@ pub(crate) fn send_mask(keys: &[u32; METERS], marks: &mut [u32; METERS], low: u3
     let mut i: usize = 0;
     while i < METERS {
         let k = keys[i];
-        let put = bit(is_within(low, high, k));
+        let put = bit(is_between(low, high, k));
         let t = mask_mark(marks[i], put);
         marks[i] = t;
         acks = acks + t % 2;

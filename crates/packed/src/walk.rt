@@ -51,7 +51,7 @@ fn probe_and_read(
     marks: &mut [u32; METERS],
     entries: &mut [u64; METERS],
 ) -> Probed
-    requires { ⌜ Whole (now keys) (now marks) (now entries) ⌝ }
+    requires { ⌜ Whole (now keys) (now marks) (now entries) × (low ≤ high) ⌝ }
     ensures { λ r. ⌜ (onceOf r (now (marks .exit)) (now (entries .exit)) ≡ onceR (now (keys .entry)) allowance low high (viewOf w (now (marks .entry)) (now (entries .entry))))
         × Whole (now (keys .entry)) (now (marks .exit)) (now (entries .exit)) × (r .many ≤ capacity) ⌝ }
 {

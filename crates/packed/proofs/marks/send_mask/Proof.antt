@@ -11,13 +11,13 @@ use Rattle.packed.proofs.marks.send_mask.Statement.{statement}
 use Rattle.packed.proofs.marks.send_mask.Tie as tie
 
 abbrev Inv-loop : tie.InvT-loop
-Inv-loop keys ss₀ low high acks₀ i₀ ss acks i = (i ≤ capacity) × (acks ≤ i) × (length keys ≡ capacity) × (length ss₀ ≡ capacity) × Sweep (masked low high) (acked low high) 0 keys ss₀ i ss acks
+Inv-loop keys ss₀ low high acks₀ i₀ ss acks i = (i ≤ capacity) × (acks ≤ i) × (length keys ≡ capacity) × (length ss₀ ≡ capacity) × (low ≤ high) × Sweep (masked low high) (acked low high) 0 keys ss₀ i ss acks
 
 abbrev μ-loop : tie.MeasureT-loop
 μ-loop keys ss₀ low high acks₀ i₀ ss acks i = capacity - i
 
 loop-holds : tie.Need-loop-holds Inv-loop μ-loop
-loop-holds c = (omega arith, omega arith, c .pre .0, c .pre .1, sweep-none)
+loop-holds c = (omega arith, omega arith, c .pre .0, c .pre .1, c .pre .2, sweep-none)
 
 mul-k : tie.Need-mul-k Inv-loop μ-loop
 mul-k c = search needs
@@ -25,8 +25,8 @@ mul-k c = search needs
 element-copy-out-k : tie.Need-element-copy-out-k Inv-loop μ-loop
 element-copy-out-k c = search needs
 
-is-within-requires : tie.Need-is-within-requires Inv-loop μ-loop
-is-within-requires c κs = search needs
+is-between-requires : tie.Need-is-between-requires Inv-loop μ-loop
+is-between-requires c κs = search needs
 
 bit-requires : tie.Need-bit-requires Inv-loop μ-loop
 bit-requires c κs = search needs
@@ -61,12 +61,12 @@ unfolding masked acked capacity
 loop-again c =
     let l = c .before .before .before .before .before .before in
     let b = c .before .before in
-    let e = c .mask-mark .ensures ∙ ap (λ h. marked (getD (l .loop .marks) (l .loop .i) 0) h) (b .bit .ensures .0 ∙ ap bitIf (b .before .is-within .ensures)) in
-    (omega arith, omega arith, l .loop .inv .2, l .loop .inv .3, sweep-more 0 0 (l .loop .inv .4) (omega arith) (omega arith) e (ap (λ v. l .loop .acks + v % 2) e))
+    let e = c .mask-mark .ensures ∙ ap (λ h. marked (getD (l .loop .marks) (l .loop .i) 0) h) (b .bit .ensures .0 ∙ ap bitIf (b .before .is-between .ensures)) in
+    (omega arith, omega arith, l .loop .inv .2, l .loop .inv .3, l .loop .inv .4, sweep-more 0 0 (l .loop .inv .5) (omega arith) (omega arith) e (ap (λ v. l .loop .acks + v % 2) e))
 
 returns : tie.Need-returns Inv-loop μ-loop
 unfolding capacity
-returns c = let r = sweep-all capacity (c .before .loop .inv .4) (omega arith) in (r .0, r .1, omega arith, r .2 ∙ c .before .loop .inv .3)
+returns c = let r = sweep-all capacity (c .before .loop .inv .5) (omega arith) in (r .0, r .1, omega arith, r .2 ∙ c .before .loop .inv .3)
 
 pub send-mask-spec : {M : Type 1} → statement M
 send-mask-spec =
@@ -77,7 +77,7 @@ send-mask-spec =
     loop-holds
     mul-k
     element-copy-out-k
-    is-within-requires
+    is-between-requires
     bit-requires
     mul-mask-mark
     element-copy-out-mask-mark

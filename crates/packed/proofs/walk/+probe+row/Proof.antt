@@ -43,7 +43,7 @@ probe-add-probe-and-read : (t : ℕ) → probe-lts.Need-add-probe-and-read (prob
 probe-add-probe-and-read t c = omega arith
 
 probe-probe-and-read-requires : (t : ℕ) → probe-lts.Need-probe-and-read-requires (probe-calls t) (probe-at t) probe.Post
-probe-probe-and-read-requires t c κs = let s = c .before .before in s .pre .1 .0
+probe-probe-and-read-requires t c κs = let s = c .before .before in (s .pre .1 .0, omega arith)
 
 probe-returns : (t : ℕ) → probe-lts.Need-returns (probe-calls t) (probe-at t) probe.Post
 unfolding onceOf
