@@ -1,12 +1,11 @@
 pub mod Machine
 pub mod Blocks
-pub mod Slices
+pub mod Loans
+pub mod Beside
 pub mod Arguments
-pub mod ByValue
-pub mod Opening
-pub mod Sending
-pub mod Receiving
-pub mod Searching
+pub mod Gave
+pub mod Routines
+pub mod Kept
 pub mod Step
 pub mod Every
 pub mod Demand

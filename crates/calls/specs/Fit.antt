@@ -8,7 +8,8 @@ use lib.ListN.{length}
 use Rattle.laws.specs.Words.{Every}
 use Rattle.clock.specs.declared.Clock.{Clock}
 use Rattle.search.specs.declared.EntryRecord.{EntryRecord}
-use Rattle.search.specs.Call.{Call, opening, sending, receiving, clearing, changing, searching}
+use Rattle.image.specs.Image.{imageLen}
+use Rattle.calls.specs.Call.{Call, opening, sending, receiving, clearing, changing, searching, searchingInto}
 
 abbrev pub Byte : ℕ → Type 0
 Byte b = b < 256
@@ -26,6 +27,13 @@ Room count each = (count < 2 ^ 64) × (count * each < 2 ^ 63)
 abbrev pub LentBytes : List ℕ → Type 0
 LentBytes bs = Every Byte bs × Room (length bs) 1
 
+-- an array of n bytes
+abbrev pub FitArray : ℕ → List ℕ → Type 0
+FitArray n bs = Every Byte bs × (length bs ≡ n)
+
+abbrev pub FitImage : List ℕ → Type 0
+FitImage bs = FitArray imageLen bs
+
 abbrev pub FitClock : Clock → Type 0
 FitClock k = Double (k .now) × (Word (k .year) × (Word (k .month) × (Word (k .day) × (Word (k .hour) × Word (k .minute)))))
 
@@ -42,4 +50,5 @@ FitCall (sending piece k) = LentBytes piece × FitClock k
 FitCall (receiving lent) = LentBytes lent
 FitCall clearing = Unit {0}
 FitCall (changing baud) = Word baud
-FitCall (searching k allowance lent) = FitClock k × (Word allowance × Records lent)
+FitCall (searching k allowance entries summary) = FitClock k × (Word allowance × (LentBytes entries × FitArray 12 summary))
+FitCall (searchingInto k allowance lent) = FitClock k × (Word allowance × Records lent)

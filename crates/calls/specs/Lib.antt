@@ -1,3 +1,5 @@
+pub mod Call
+pub mod Answer
 pub mod Lent
 pub mod Fit
 pub mod Made

@@ -197,16 +197,3 @@ pub fn tidy(image: &mut [u8; IMAGE])
     let s = read_image(image);
     write_image(s, image)
 }
-
-fn blank_image() -> [u8; IMAGE] {
-    [0u8; IMAGE]
-}
-
-// The image of a segment by value.
-pub fn image_of(s: Segment) -> [u8; IMAGE]
-    ensures { λ r. ⌜ IsImage (plainOf s) r ⌝ }
-{
-    let mut image = blank_image();
-    write_image(s, &mut image);
-    image
-}

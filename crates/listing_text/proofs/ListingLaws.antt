@@ -4,24 +4,26 @@ use mathlib.Core.Bool.{false}
 use mathlib.Core.List.{List, _++_}
 use Prim.Native.Nat.{ℕ, _≤_}
 use native.Mathlib.Omega.{arith}
-use lib.Ieee.{Float}
+use Rattle.seconds.specs.Seconds.{zeroSeconds}
 use lib.ListN.{length, take, drop, length-replicate}
 use lib.Seq.{take-at, length-take-le}
 use borrow.Author.Tests.{eq-eqb, ne-eqb}
 use Rattle.search.specs.Site.{site, october}
 use Rattle.clock.specs.declared.Clock.{Clock}
 use Rattle.scenarios.specs.Opening.{OpeningGives, openList, capacity}
-use Rattle.bus.specs.Plain.{Plain}
-use Rattle.bus.specs.View.{plainOf}
-use Rattle.segment_by_value.specs.View.{Opens}
-use Rattle.segment_by_value.specs.declared.Opened.{Opened as Opening}
-use Rattle.bus.specs.declared.Segment.{Segment}
+use Rattle.bus.specs.Plain.{Plain, blank}
+use Rattle.bus.specs.Calls.{afterOpening}
+use Rattle.refusals.specs.declared.Refusal.{Refusal}
+use Rattle.refusals.specs.Refusals.{refusalNumber, refusalIndex}
+use Rattle.image.specs.Image.{imaged, IsImage}
+use Rattle.image.specs.Answers.{OpenedImage}
 use Rattle.search.specs.declared.EntryRecord.{EntryRecord}
-use Rattle.search.specs.declared.Core.{Core}
-use Rattle.search.specs.View.{coreGives, CoreFinds}
+use Rattle.search.specs.declared.Entries.{Entries}
+use Rattle.search.specs.View.{entriesGive, SearchesIn}
 use Rattle.search.specs.SearchCall.{Searched, searchCall}
 use Rattle.report_text.specs.Text.{reportOf, refusalOf, Prints}
 use Rattle.listing_text.specs.Listing.{lentRecords, listIn, listedSearch, listingText, Lists}
+use Rattle.listing_text.specs.ProgramListing.{OpensSite}
 
 pub lent-count : length lentRecords ≡ capacity
 unfolding lentRecords
@@ -38,8 +40,14 @@ unfolding listingText
 text-report n r es rest z e h =
     rw (eq-eqb n 0 z) (ap (λ (l : List EntryRecord). reportOf l (r .probes)) (ap (take (r .count)) e ∙ take-at (take (r .count) es) rest (r .count) (length-take-le (r .count) es h)))
 
-pub opens-as : {l m : List ℕ} {s t : Plain} {o : Float} {r : Opening} → l ≡ m → s ≡ t → Opens l 2400 false o s r → Opens m 2400 false o t r
-opens-as {l} {m} {s} {t} {o} {r} e f p = subst (λ (y : Plain). Opens m 2400 false o y r) f (subst (λ (x : List ℕ). Opens x 2400 false o s r) e p)
+-- a list opened in the image of a new segment
+pub opens-site : {l m : List ℕ} {r : Refusal} {old new : List ℕ} → l ≡ m → IsImage blank old → OpenedImage l 2400 false zeroSeconds (refusalNumber r) (refusalIndex r) old new → OpensSite m r new
+unfolding site
+opens-site {l} {m} {r} e i o =
+    record {
+      answer = subst (λ (x : List ℕ). OpeningGives (openList x 2400 false) (refusalNumber r) (refusalIndex r)) e (o .gives);
+      segment = o .segment ∙ ap₂ (λ (x : List ℕ) (s : Plain). afterOpening x 2400 false zeroSeconds s) e (i .means);
+    }
 
 -- what the opening gives
 abbrev pub OpenedAs : List ℕ → ℕ → ℕ → Type 0
@@ -60,12 +68,12 @@ module _ {input lent after : List ℕ} {r : ℕ} where
         prints = p;
       }
 
-  -- f is a search of the segment q
-  pub lists-report : (m i n : ℕ) (q : Segment) (k : Clock) (f : Core) → OpenedAs input m i → n ≡ m → n ≡ 0
-      → plainOf q ≡ site (listIn input) → k ≡ october → CoreFinds q k 10000 capacity f → length (f .entries) ≡ capacity
+  -- f is a search in the image `old`
+  pub lists-report : (m i n : ℕ) (old new : List ℕ) (k : Clock) (f : Entries) → OpenedAs input m i → n ≡ m → n ≡ 0
+      → imaged old ≡ site (listIn input) → k ≡ october → SearchesIn old k 10000 capacity f new → length (f .entries) ≡ capacity
       → Prints lent (reportOf (take (f .count) (f .entries)) (f .probes)) r after → Lists input lent r after
-  unfolding coreGives listedSearch capacity
-  lists-report m i n q k f o e z a b c d p =
+  unfolding listedSearch capacity
+  lists-report m i n old new k f o e z a b c d p =
       let g = c .gives lentRecords lent-count ∙ ap₂ (λ (x : Clock) (y : Plain). searchCall x 10000 lentRecords y) b a in
       record {
         text = reportOf (take (f .count) (f .entries)) (f .probes);
@@ -74,7 +82,7 @@ module _ {input lent after : List ℕ} {r : ℕ} where
               number = n;
               index = i;
               opening = rw e o;
-              is = sym (text-report n (coreGives f lentRecords) (f .entries) (drop (f .count) lentRecords) z refl (omega (arith, c .fits))) ∙ ap (listingText n) g;
+              is = sym (text-report n (entriesGive f (imaged new) lentRecords) (f .entries) (drop (f .count) lentRecords) z refl (omega (arith, c .fits))) ∙ ap (listingText n) g;
             };
         prints = p;
       }

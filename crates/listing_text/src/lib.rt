@@ -2,18 +2,15 @@
 ghost use mathlib.Core.Path.{_≡_};
 ghost use Rattle.search.specs.Site.{october};
 ghost use Rattle.listing_text.specs.Listing.{listIn, Lists};
-ghost use Rattle.bus.specs.Plain.{blank};
-ghost use Rattle.segment_by_value.specs.View.{Opens};
-ghost use mathlib.Core.Bool.{false};
-ghost use lib.IntN.{pos};
-ghost use lib.Ieee.{fin};
+ghost use Rattle.listing_text.specs.ProgramListing.{OpensSite};
 use bus::METERS;
 use bus::Segment;
 use clock::Clock;
+use image::IMAGE;
 use laws::least;
+use refusals::Refusal;
 use report_text::TEXT;
 use report_text::Written;
-use segment_by_value::Opened;
 
 // Input past so many bytes is not read.
 const INPUT: usize = 65536;
@@ -31,26 +28,29 @@ fn clock() -> Clock
     }
 }
 
-// The first opening of a segment.
-fn open_list(input: &[u8]) -> Opened
-    ensures { λ r. ⌜ Opens (listIn (now (input .entry))) 2400 false (fin false 0 (pos 0)) blank r ⌝ }
+// The opening of a new segment, in its image.
+fn open_list(image: &mut [u8; IMAGE], input: &[u8]) -> Refusal
+    ensures { λ r. ⌜ OpensSite (listIn (now (input .entry))) r (now (image .exit)) ⌝ }
 {
-    let segment = Segment::new();
+    image::write_image(Segment::new(), image);
     let n = least(INPUT, input.len());
-    segment_by_value::open(segment, &input[..n], 2400, false, 0.0)
+    segment_calls::open(image, &input[..n], 2400, false, 0.0)
+}
+
+fn no_image() -> [u8; IMAGE] {
+    [0u8; IMAGE]
 }
 
 fn list_into(input: &[u8], lent: [u8; TEXT]) -> Written
     ensures { λ r. ⌜ Lists (now (input .entry)) lent (r .len) (r .bytes) ⌝ }
 {
-    let opened = open_list(input);
-    let answer = opened.answer;
+    let mut image = no_image();
+    let answer = open_list(&mut image, input);
     let n = refusals::refusal_number(answer);
     if n != 0 {
         return report_text::refusal(lent, n as u32);
     }
-    let segment = opened.segment;
-    let found = search::search_core(segment, clock(), 10000, METERS);
+    let found = search::search_listed(&mut image, clock(), 10000, METERS);
     let entries = found.entries;
     report_text::report(lent, entries, found.count, found.probes)
 }

@@ -1,8 +1,9 @@
-// Reads a script of calls from standard input, at most 65,536 bytes, makes them on a segment one after the other, and
+// Reads a script of calls from standard input, at most 65,536 bytes, makes them on a segment in its image, and
 // writes what each gives. A command is a byte that names it and its arguments, each number with its highest byte first.
 // The run ends at the script's end, at a byte that names no command, and at a command that is cut off.
 use bus::Segment;
 use clock::Clock;
+use image::IMAGE;
 use libc::STDIN_FILENO;
 
 mod calls; // calls.rt: each call, and its line of text
@@ -10,26 +11,15 @@ mod print; // print.rt: numbers and bytes as text
 mod script; // script.rt: the commands' bytes
 mod show; // show.rt: a segment's parts and the entries of a search as text
 
-// The segment, and the clock that calls are given.
-struct Run {
-    segment: Segment,
-    clock: Clock,
-}
-
-// No meters, and a clock for a script that sets none.
-fn start() -> Run {
-    let segment = Segment::new();
-    let clock = Clock {
+// The clock for a script that sets none.
+fn noon() -> Clock {
+    Clock {
         now: 3725.5,
         year: 2026,
         month: 10,
         day: 1,
         hour: 12,
         minute: 34,
-    };
-    Run {
-        segment: segment,
-        clock: clock,
     }
 }
 
@@ -46,48 +36,41 @@ fn clock_of(arguments: &[u8]) -> Clock {
 }
 
 // A command other than that for the clock.
-fn call(segment: Segment, clock: Clock, name: u8, arguments: &[u8]) -> Segment {
+fn call(image: &mut [u8; IMAGE], clock: Clock, name: u8, arguments: &[u8]) {
     match name {
-        script::OPEN => calls::open_list(segment, arguments),
-        script::BUILTIN => calls::open_builtin(segment, arguments),
-        script::SEND => calls::send(segment, clock, arguments),
-        script::RECEIVE => calls::receive(segment, arguments),
-        script::CLEAR => calls::clear(segment),
-        script::BAUD => calls::set_baud(segment, arguments),
-        script::SEARCH => calls::find(segment, clock, arguments),
-        script::STATE => {
-            show::state(segment);
-            segment
-        }
-        script::SHORT => {
-            show::short_state(segment);
-            segment
-        }
-        _ => segment,
+        script::OPEN => calls::open_list(image, arguments),
+        script::BUILTIN => calls::open_builtin(image, arguments),
+        script::SEND => calls::send(image, clock, arguments),
+        script::RECEIVE => calls::receive(image, arguments),
+        script::CLEAR => calls::clear(image),
+        script::BAUD => calls::set_baud(image, arguments),
+        script::SEARCH => calls::find(image, clock, arguments),
+        script::STATE => show::state(image::read_image(image)),
+        script::SHORT => show::short_state(image::read_image(image)),
+        _ => {}
     }
 }
 
-// One command.
-fn step(run: Run, command: &[u8]) -> Run {
+// One command; the clock for the next one comes back.
+fn step(image: &mut [u8; IMAGE], clock: Clock, command: &[u8]) -> Clock {
     let name = script::byte(command);
     let arguments = script::rest(command, 1);
-    let segment = run.segment;
     if name == script::CLOCK {
-        return Run {
-            segment: segment,
-            clock: clock_of(arguments),
-        };
+        return clock_of(arguments);
     }
-    let clock = run.clock;
-    Run {
-        segment: call(segment, clock, name, arguments),
-        clock: clock,
-    }
+    call(image, clock, name, arguments);
+    clock
 }
 
-// The commands, one after the other.
+fn no_image() -> [u8; IMAGE] {
+    [0u8; IMAGE]
+}
+
+// The commands, one after the other, from a segment of no meters on.
 fn replay(commands: &[u8]) {
-    let mut run = start();
+    let mut image = no_image();
+    image::write_image(Segment::new(), &mut image);
+    let mut clock = noon();
     let mut at: usize = 0;
     while at < commands.len() {
         let rest = &commands[at..];
@@ -95,7 +78,7 @@ fn replay(commands: &[u8]) {
         if used == 0 {
             return;
         }
-        run = step(run, &rest[0..used]);
+        clock = step(&mut image, clock, &rest[0..used]);
         at += used;
     }
 }

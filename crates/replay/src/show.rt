@@ -8,7 +8,7 @@ use meter::Fault;
 use meter::LastFcb;
 use meter::Meter;
 use meter::Model;
-use search::Core;
+use search::Entries;
 use search::EntryRecord;
 use search::Kind;
 
@@ -153,11 +153,11 @@ fn entry(e: EntryRecord) {
 }
 
 // A line for each entry.
-pub(crate) fn entries(core: Core) {
-    let end = least(core.count, bus::METERS);
+pub(crate) fn entries(found: Entries) {
+    let end = least(found.count, bus::METERS);
     let mut i: usize = 0;
     while i < end {
-        let e = core.entries[i];
+        let e = found.entries[i];
         entry(e);
         i += 1;
     }

@@ -1,4 +1,4 @@
--- Demand 3 over the plain segment holds.
+-- What demand 3 claims of a search holds of every well-formed segment.
 use mathlib.Core.Path.{_≡_, sym, ap, _∙_, subst}
 use mathlib.Core.Bool.{true}
 use mathlib.Core.List.{List, [], _∷_, List·Memᴰ, List·Memᴰ·head, List·Memᴰ·tail}
@@ -8,7 +8,7 @@ use lib.ListN.{length}
 use Rattle.laws.specs.Words.{Every}
 use Rattle.laws.proofs.Lists.{every-keep}
 use Rattle.clock.specs.declared.Clock.{Clock}
-use Rattle.bus.specs.Plain.{Plain, blank}
+use Rattle.bus.specs.Plain.{Plain}
 use Rattle.walk.specs.Walk.{probe, read, Walked, wholeWalk}
 use Rattle.walk.specs.Entries.{atBus, atBusBaud, D, sumTo}
 use Rattle.walk.proofs.Seen.{IdDigits, WellFormed}
@@ -19,10 +19,8 @@ use Rattle.walk.proofs.Instance.{ready, walk-found}
 use Rattle.walk.proofs.Fits.{well-sized, walk-fits-meters}
 use Rattle.search.specs.declared.EntryRecord.{EntryRecord}
 use Rattle.search.specs.SearchCall.{Searched, searchCall}
-use Rattle.search.specs.Call.{opening, afterCalls}
-use Rattle.search.specs.Demand.{Demanded, PlainDemand3}
+use Rattle.search.specs.Demand.{Demanded}
 use Rattle.search.proofs.Allowed.{Allowed, allowed-accepted, accepted-allowed}
-use Rattle.search.proofs.CallLaws.{all-well, blank-well}
 
 every-mem : {A : Type 0} (P : A → Type 0) {x : A} {xs : List A} → List·Memᴰ x xs → Every P xs → P x
 every-mem P (List·Memᴰ·head e) h = subst P (sym e) (h .0)
@@ -54,12 +52,9 @@ module _ (k : Clock) (a : ℕ) (lent : List EntryRecord) (s : Plain) where
         bound = omega (arith, D-le (atBusBaud s));
       }
 
--- ---- any list of calls that begins with an opening, and one more search that is not refused
-
-pub demanded : PlainDemand3
-demanded list bus practice origin cs k a lent e =
-    let s = afterCalls (opening list bus practice origin ∷ cs) blank in
-    search-demanded k a lent s (all-well (opening list bus practice origin ∷ cs) blank blank-well) (accepted-allowed k a lent s e)
+  -- one that is not refused
+  pub demanded : WellFormed s → (searchCall k a lent s) .number ≡ 0 → Demanded a lent s (wholeWalk k a s) (searchCall k a lent s)
+  demanded well e = search-demanded well (accepted-allowed k a lent s e)
 
 -- the bound on the price asks nothing of the meters: it holds with a flaky one at bus baud too
 pub bound-always : (a : ℕ) (lent : List EntryRecord) (s : Plain) (w : Walked) (r : Searched) → Demanded a lent s w r

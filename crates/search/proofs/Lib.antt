@@ -1,6 +1,5 @@
 pub mod Allowed
-pub mod CallLaws
-pub mod Answered
+pub mod WellLaws
 pub mod Demanded
 pub mod BitLaws
 pub mod MarkLaws
@@ -16,6 +15,9 @@ pub mod PackedWalk
 pub mod PackLaws
 pub mod PackStart
 pub mod MadeLaws
-pub mod SearchInLaws
+pub mod SearchCoreLaws
 pub mod Filled
 mod SearchCalls
+mod LentPart
+pub mod ListedLaws
+mod ListedCalls

@@ -28,7 +28,8 @@ use Rattle.search.specs.declared.Outcome.the-variants.{Made}
 use Rattle.search.specs.declared.Entries.{Entries}
 use Rattle.search.specs.SearchCall.{recordOf, searchGave}
 use Rattle.search.specs.Packing.{keyOf, markOf, packed, Bounded, unmarked, recordIn}
-use Rattle.search.specs.View.{outcomeNumber, entriesGive, packedRun, Walks}
+use Rattle.search.specs.View.{outcomeNumber, entriesGive}
+use Rattle.search.specs.ProgramSearch.{packedRun, Walks}
 use Rattle.search.proofs.KeyDigits.{digits-eight}
 use Rattle.search.proofs.PackStart.{packed-hold, packed-seen, swept-seen}
 use Rattle.search.proofs.PackedProbe.{seenAll}

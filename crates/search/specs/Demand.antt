@@ -1,18 +1,15 @@
--- Demand 3 over the plain segment, without a program: what is claimed of the last search of a list. calls/specs/Demand says it of the program's own routines.
+-- What demand 3 claims of one search. calls/specs/Demand says it of the program's own routines, after every list of calls.
 use mathlib.Core.Path.{_≡_}
-use mathlib.Core.Bool.{Bool, true}
-use mathlib.Core.List.{List, _∷_, _++_, map}
+use mathlib.Core.Bool.{true}
+use mathlib.Core.List.{List, _++_, map}
 use Prim.Native.Nat.{ℕ, _+_, _*_, _/_, _^_, _≤_, min}
-use lib.Ieee.{Float}
 use lib.ListN.{length, drop}
-use Rattle.clock.specs.declared.Clock.{Clock}
-use Rattle.bus.specs.Plain.{Plain, blank}
-use Rattle.walk.specs.Walk.{Walked, wholeWalk}
+use Rattle.bus.specs.Plain.{Plain}
+use Rattle.walk.specs.Walk.{Walked}
 use Rattle.walk.specs.Entries.{atBusBaud, NoFlaky, D, sumTo}
 use Rattle.walk.specs.Steady.{Steady}
 use Rattle.search.specs.declared.EntryRecord.{EntryRecord}
-use Rattle.search.specs.SearchCall.{recordOf, Searched, searchCall}
-use Rattle.search.specs.Call.{Call, opening, afterCalls}
+use Rattle.search.specs.SearchCall.{recordOf, Searched}
 
 -- what a search gives, r, on the segment s with the walk w
 pub record Demanded (allowance : ℕ) (lent : List EntryRecord) (s : Plain) (w : Walked) (r : Searched) : Type 0 where
@@ -30,11 +27,3 @@ pub record Demanded (allowance : ℕ) (lent : List EntryRecord) (s : Plain) (w :
   pub steady : NoFlaky s → Steady allowance (atBusBaud s) w
   -- the bound on the price, in every case: over k = 0 to 7, the sum of the lesser of 10^k and n/2 rounded down, n the meters at bus baud
   pub bound : let n = length (atBusBaud s) in 1 + 10 * D (atBusBaud s) ≤ 1 + 10 * sumTo 8 (λ k. min (10 ^ k) (n / 2))
-
--- "Demand 3's lists begin with an opening, accepted or not": after any such list, one more search that is not refused.
--- `blank` is the segment that a refused first opening gives.
-abbrev pub PlainDemand3 : Type 0
-PlainDemand3 = (list : List ℕ) (bus : ℕ) (practice : Bool) (origin : Float) (cs : List Call) (k : Clock) (allowance : ℕ) (lent : List EntryRecord)
-    → let s = afterCalls (opening list bus practice origin ∷ cs) blank in
-    let r = searchCall k allowance lent s in
-    r .number ≡ 0 → Demanded allowance lent s (wholeWalk k allowance s) r

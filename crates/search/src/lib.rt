@@ -2,13 +2,11 @@
 ghost use mathlib.Core.Path.{_≡_};
 ghost use Prim.Native.Nat.{_<_};
 ghost use Rattle.scenarios.specs.Opening.{capacity};
-ghost use Rattle.bus.specs.View.{plainOf};
 ghost use Rattle.image.specs.Image.{imaged};
-ghost use Rattle.search.specs.SearchCall.{searchCall};
-ghost use Rattle.search.specs.View.{outcomeNumber, Refuses, Walks, SearchesIn, CoreFinds, answerOf, recordAt, searchedOf};
 ghost use Rattle.search.specs.SearchCall.{isEmpty};
+ghost use Rattle.search.specs.View.{outcomeNumber, SearchesIn, SearchesInto};
+ghost use Rattle.search.specs.ProgramSearch.{Refuses, Walks, answerOf, recordAt, listedOf};
 use bus::METERS;
-use bus::Segment;
 use clock::Clock;
 use clock::good_clock;
 use image::IMAGE;
@@ -106,8 +104,8 @@ fn is_empty(image: &[u8; IMAGE]) -> bool
     false
 }
 
-// A search of the segment that an image means; `room` is the number of entry records lent. It checks 14, 16, 17.
-pub fn search_in(image: &mut [u8; IMAGE], clock: Clock, allowance: u32, room: usize) -> Entries
+// The search's core: it fills an array by value. `room` is the number of entry records lent. It checks 14, 16, 17.
+fn search_core(image: &mut [u8; IMAGE], clock: Clock, allowance: u32, room: usize) -> Entries
     ensures { λ r. ⌜ SearchesIn (now (image .entry)) clock allowance room r (now (image .exit)) ⌝ }
 {
     if !good_clock(clock) {
@@ -125,55 +123,23 @@ pub fn search_in(image: &mut [u8; IMAGE], clock: Clock, allowance: u32, room: us
     walk_packed(image, allowance)
 }
 
-// A search by value: the first `count` entries are those found.
-pub struct Core {
-    pub outcome: Outcome,
-    pub entries: [EntryRecord; METERS],
-    pub count: usize,
-    pub probes: u32,
-    pub spent: bool,
-    pub segment: Segment,
-}
-
-// A search, by value: of the segment's image.
-pub fn search_core(segment: Segment, clock: Clock, allowance: u32, room: usize) -> Core
-    ensures { λ r. ⌜ CoreFinds segment clock allowance room r ⌝ }
-{
-    let mut image = image::image_of(segment);
-    let found = search_in(&mut image, clock, allowance, room);
-    let outcome = found.outcome;
-    let entries = found.entries;
-    let after = image::read_image(&image);
-    Core {
-        outcome: outcome,
-        entries: entries,
-        count: found.count,
-        probes: found.probes,
-        spent: found.spent,
-        segment: after,
-    }
-}
-
 // What a search answers; the entries found are in the first `count` of the lent records.
 pub struct Searched {
     pub outcome: Outcome,
     pub count: usize,
     pub probes: u32,
     pub spent: bool,
-    pub segment: Segment,
 }
 
-fn answer(core: Core) -> Searched
+fn answer(core: Entries) -> Searched
     ensures { λ r. ⌜ r ≡ answerOf core ⌝ }
 {
     let outcome = core.outcome;
-    let segment = core.segment;
     Searched {
         outcome: outcome,
         count: core.count,
         probes: core.probes,
         spent: core.spent,
-        segment: segment,
     }
 }
 
@@ -184,17 +150,17 @@ fn entry_at(entries: [EntryRecord; METERS], i: usize) -> EntryRecord
     entries[i]
 }
 
-// A search: the entries are written into the lent records, further ones stay. A refused search writes none.
+// A search of the segment that an image means: the entries are written into the lent records, further ones stay. A refused search writes none.
 pub fn search(
-    segment: Segment,
+    image: &mut [u8; IMAGE],
     clock: Clock,
     allowance: u32,
     entries: &mut [EntryRecord],
 ) -> Searched
-    ensures { λ r. ⌜ searchedOf r (entries .exit .now) ≡ searchCall clock allowance (entries .entry .now) (plainOf segment) ⌝ }
+    ensures { λ r. ⌜ SearchesInto (now (image .entry)) clock allowance (entries .entry .now) r (entries .exit .now) (now (image .exit)) ⌝ }
 {
     let room = entries.len();
-    let core = search_core(segment, clock, allowance, room);
+    let core = search_core(image, clock, allowance, room);
     let count = core.count;
     let mut i: usize = 0;
     while i < count {
@@ -203,4 +169,28 @@ pub fn search(
         i = i + 1;
     }
     answer(core)
+}
+
+// What a search answered, with the records that it wrote.
+fn listed(found: Searched, records: [EntryRecord; METERS]) -> Entries
+    ensures { λ r. ⌜ r ≡ listedOf found records ⌝ }
+{
+    let outcome = found.outcome;
+    Entries {
+        outcome: outcome,
+        entries: records,
+        count: found.count,
+        probes: found.probes,
+        spent: found.spent,
+    }
+}
+
+// A search that gives its entries by value: it lends records of its own, as many as the caller has room for, and no more than a segment has meters.
+pub fn search_listed(image: &mut [u8; IMAGE], clock: Clock, allowance: u32, room: usize) -> Entries
+    ensures { λ r. ⌜ SearchesIn (now (image .entry)) clock allowance room r (now (image .exit)) ⌝ }
+{
+    let mut records = pack::blank_records();
+    let lent = least(room, METERS);
+    let found = search(image, clock, allowance, &mut records[..lent]);
+    listed(found, records)
 }

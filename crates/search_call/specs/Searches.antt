@@ -31,9 +31,13 @@ entryBytes e =
 abbrev pub summaryOf : ℕ → ℕ → Bool → List ℕ
 summaryOf count probes spent = little 4 count ++ little 4 probes ++ little 4 (bitIf spent)
 
--- 01's search of a segment, with as many records lent as there are whole 16 bytes in the lent bytes. What stood in them has no part in what it finds.
+-- as many records as there are whole 16 bytes in the lent bytes; what stood in them has no part in what a search finds
+abbrev pub recordsFor : List ℕ → List EntryRecord
+recordsFor entries = replicate (length entries / 16) noEntry
+
+-- 01's search of a segment into these records
 unfoldable pub searchBy : Clock → ℕ → List ℕ → Plain → Searched
-searchBy k allowance entries s = searchCall k allowance (replicate (length entries / 16) noEntry) s
+searchBy k allowance entries s = searchCall k allowance (recordsFor entries) s
 
 -- The answer is the search's number, the image means its segment, its entries are the first of the lent bytes, further ones stay.
 -- An image that was the one image of its segment is so afterwards.

@@ -31,7 +31,7 @@ pub fn search_image(
         minute: minute,
     };
     let room = entries.len() / 16;
-    let found = search::search_in(image, clock, allowance, room);
+    let found = search::search_listed(image, clock, allowance, room);
     let outcome = found.outcome;
     let number = search::outcome_number(outcome);
     if number != 0 {

@@ -38,10 +38,10 @@ use Rattle.search.specs.SearchCall.{searchCall}
 use Rattle.walk.specs.Entries.{atBusBaud, D}
 use Rattle.search.specs.declared.EntryRecord.{EntryRecord}
 use Rattle.search.specs.declared.Kind.the-variants.{One}
-use Rattle.search.specs.Call.{afterCall, afterCalls}
 use Rattle.search.specs.Demand.{Demanded}
 use Rattle.walk.proofs.Bound.{D-none}
 use Rattle.search.proofs.Demanded.{demanded}
+use Rattle.search.proofs.WellLaws.{opening-well, blank-well}
 use Rattle.table.specs.Table.{walked, outcome, busyAt11, noMeter, oneMeter, twice, Table}
 
 -- to unfold this is to unfold every definition that a search computes with
@@ -92,8 +92,8 @@ lent : List EntryRecord
 lent = replicate 64 (record { kind = One; digits = replicate 8 0; count = 0 })
 
 ok10-demanded : Demanded 10000 lent (site ok10) (walked ok10) (searchCall october 10000 lent (site ok10))
-unfolding everything written ok10 searchCall afterCall afterCalls lent
-ok10-demanded = demanded ok10 2400 false zeroSeconds [] october 10000 lent refl
+unfolding everything written ok10 searchCall lent
+ok10-demanded = demanded october 10000 lent (site ok10) (opening-well ok10 2400 false zeroSeconds blank blank-well) refl
 
 line-l-price : 1 + 10 * D (atBusBaud (site ok10)) ≡ 201
 unfolding everything written ok10

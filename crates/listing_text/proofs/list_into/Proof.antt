@@ -8,6 +8,9 @@ use Rattle.listing_text.proofs.ListingLaws.{lists-refusal, lists-report
 use Rattle.listing_text.proofs.list_into.Statement.{statement}
 use Rattle.listing_text.proofs.list_into.Tie as tie
 
+no-image-requires : tie.Need-no-image-requires
+no-image-requires c κs = search needs
+
 open-list-requires : tie.Need-open-list-requires
 open-list-requires c κs = search needs
 
@@ -28,8 +31,8 @@ returns c =
 clock-requires : tie.Need-clock-requires
 clock-requires c κs = search needs
 
-search-core-requires : tie.Need-search-core-requires
-search-core-requires c κs = search needs
+search-listed-requires : tie.Need-search-listed-requires
+search-listed-requires c κs = search needs
 
 report-requires : tie.Need-report-requires
 report-requires c κs = search needs
@@ -40,21 +43,22 @@ returns-2 c =
     let o = c .before .before .before .before .before .before .before .open-list in
     let n = c .before .before .before .before .before .before .refusal-number in
     let k = c .before .before .before .clock in
-    let f = c .before .before .search-core in
+    let f = c .before .before .search-listed in
     let d : length (f .result .entries) ≡ capacity = search (needs, length-mapped) in
-    lists-report _ _ (n .result) (o .result .segment) (k .result) (f .result) (o .ensures .answer) (n .ensures) (c .before .before .before .before .before .if1 .left)
+    lists-report _ _ (n .result) _ _ (k .result) (f .result) (o .ensures .answer) (n .ensures) (c .before .before .before .before .before .if1 .left)
     (o .ensures .segment) (k .ensures) (f .ensures) d (c .report .ensures)
 
 pub list-into-spec : {M : Type 1} → statement M
 list-into-spec =
     tie.close
     (tie.spec
+    no-image-requires
     open-list-requires
     refusal-number-requires
     cast-refusal
     refusal-requires
     returns
     clock-requires
-    search-core-requires
+    search-listed-requires
     report-requires
     returns-2)

@@ -5,13 +5,22 @@ use Rattle.replay.proofs.replay.Statement.{statement}
 use Rattle.replay.proofs.replay.Tie as tie
 
 abbrev Inv-loop : tie.InvT-loop
-Inv-loop commands run₀ at₀ run at = (at ≤ length commands)
+Inv-loop commands image₀ clock₀ at₀ image clock at = (at ≤ length commands)
 
 abbrev μ-loop : tie.MeasureT-loop
-μ-loop commands run₀ at₀ run at = length commands - at
+μ-loop commands image₀ clock₀ at₀ image clock at = length commands - at
 
-start-requires : tie.Need-start-requires Inv-loop μ-loop
-start-requires c κs = search needs
+no-image-requires : tie.Need-no-image-requires Inv-loop μ-loop
+no-image-requires c κs = search needs
+
+new-requires : tie.Need-new-requires Inv-loop μ-loop
+new-requires c κs = search needs
+
+write-image-requires : tie.Need-write-image-requires Inv-loop μ-loop
+write-image-requires c κs = search needs
+
+noon-requires : tie.Need-noon-requires Inv-loop μ-loop
+noon-requires c κs = search needs
 
 loop-holds : tie.Need-loop-holds Inv-loop μ-loop
 loop-holds c = search needs
@@ -61,7 +70,10 @@ replay-spec =
     (tie.spec
     Inv-loop
     μ-loop
-    start-requires
+    no-image-requires
+    new-requires
+    write-image-requires
+    noon-requires
     loop-holds
     sub-rest
     part-rest-start

@@ -1,6 +1,6 @@
 use borrow.Author.Needs.{needs}
 use Rattle.image.specs.Image.{imaged}
-use Rattle.search.proofs.SearchInLaws.{none-waits, some-waits}
+use Rattle.search.proofs.SearchCoreLaws.{none-waits, some-waits}
 use Rattle.search.proofs.is_empty.Statement.{statement}
 use Rattle.search.proofs.is_empty.Tie as tie
 

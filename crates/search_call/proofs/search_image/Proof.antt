@@ -15,11 +15,11 @@ clock-of : tie.Start → Clock
 clock-of s = let a = s .args in record { now = a .secs; year = a .year; month = a .month; day = a .day; hour = a .hour; minute = a .minute }
 
 -- how many places the entries have
-long-entries : (c : tie.After-search-in) → length (c .search-in .result .entries) ≡ mostMeters
+long-entries : (c : tie.After-search-listed) → length (c .search-listed .result .entries) ≡ mostMeters
 long-entries c = search (needs, length-mapped)
 
-search-in-requires : tie.Need-search-in-requires
-search-in-requires c κs = search needs
+search-listed-requires : tie.Need-search-listed-requires
+search-listed-requires c κs = search needs
 
 outcome-number-requires : tie.Need-outcome-number-requires
 outcome-number-requires c κs = search needs
@@ -31,7 +31,7 @@ returns c =
     let f = n .before in
     let s = f .before .before .before in
     let a = s .args in
-    search-refused (clock-of s) (a .allowance) (a .entries .now) (a .image .now) _ (f .search-in .result) (f .search-in .ensures)
+    search-refused (clock-of s) (a .allowance) (a .entries .now) (a .image .now) _ (f .search-listed .result) (f .search-listed .ensures)
     (n .outcome-number .result) (a .summary .now) (n .outcome-number .ensures) (omega (arith, c .if1 .taken))
 
 put-entries-requires : tie.Need-put-entries-requires
@@ -52,14 +52,14 @@ returns-2 c =
     let f = n .before in
     let s = f .before .before .before in
     let a = s .args in
-    search-made (clock-of s) (a .allowance) (a .entries .now) (a .image .now) _ (f .search-in .result) (f .search-in .ensures)
+    search-made (clock-of s) (a .allowance) (a .entries .now) (a .image .now) _ (f .search-listed .result) (f .search-listed .ensures)
     _ (a .summary .now) _ (sym (e .if1 .left) ∙ n .outcome-number .ensures) (long-entries f) (p .put-entries .ensures) (c .summary-of .ensures)
 
 pub search-image-spec : {M : Type 1} → statement M
 search-image-spec =
     tie.close
     (tie.spec
-    search-in-requires
+    search-listed-requires
     outcome-number-requires
     returns
     put-entries-requires

@@ -7,10 +7,10 @@ use Rattle.replay.proofs.show.entries.Statement.{statement}
 use Rattle.replay.proofs.show.entries.Tie as tie
 
 abbrev Inv-loop : tie.InvT-loop
-Inv-loop core end i₀ i = (i ≤ end) × (end ≤ 64) × (length (core .entries) ≡ 64)
+Inv-loop found end i₀ i = (i ≤ end) × (end ≤ 64) × (length (found .entries) ≡ 64)
 
 abbrev μ-loop : tie.MeasureT-loop
-μ-loop core end i₀ i = end - i
+μ-loop found end i₀ i = end - i
 
 least-requires : tie.Need-least-requires Inv-loop μ-loop
 least-requires c κs = search needs
