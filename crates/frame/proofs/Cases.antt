@@ -9,7 +9,7 @@ use lib.ListN.{length, take, drop, length-drop}
 use lib.Seq.{take-suc, length-take-le}
 use native.Mathlib.Numerals.{add-one}
 use Rattle.laws.specs.Words.{if_then_else_, at}
-use Rattle.frame.specs.declared.Outcome.{Outcome}
+use Rattle.frame.specs.declared.ParseOutcome.{ParseOutcome}
 use Rattle.frame.specs.View.{dataAt, parsedOf, lengthTold, dataLength, Finds}
 use Rattle.frame.specs.Frame.{ack, long, checksum, stop, header, badLength, start, Parsed, complete, incomplete, invalid, added, sum, parseShort, parseBody, parseLong, parse}
 use Rattle.frame.proofs.RoundTrip.{parseLong-is, parseBody-is, parseBody-fails}
@@ -35,10 +35,10 @@ pub sum-more : (s : List ℕ) (i : ℕ) → i < length s → sum (take (i + 1) s
 sum-more s i h = ap (λ n. sum (take n s)) (add-one i) ∙ ap sum (take-suc s i 0 h) ∙ sum-snoc (take i s) (at s i)
 
 -- an outcome tells what was found where its number of data bytes is right for its own telegram
-pub found : {bs : List ℕ} {r : Outcome} {p : Parsed} → parsedOf bs r ≡ p → lengthTold r ≡ dataLength (parsedOf bs r) → Finds bs p r
+pub found : {bs : List ℕ} {r : ParseOutcome} {p : Parsed} → parsedOf bs r ≡ p → lengthTold r ≡ dataLength (parsedOf bs r) → Finds bs p r
 found e f = record { tells = e; counts = f ∙ ap dataLength e }
 
-pub found-as : {bs : List ℕ} {r : Outcome} {p q : Parsed} → Finds bs p r → p ≡ q → Finds bs q r
+pub found-as : {bs : List ℕ} {r : ParseOutcome} {p q : Parsed} → Finds bs p r → p ≡ q → Finds bs q r
 found-as h e = record { tells = h .tells ∙ e; counts = h .counts ∙ ap dataLength e }
 
 -- parse, by the byte in front

@@ -9,8 +9,8 @@ use Rattle.frame.specs.declared.Frame.{Frame}
 use Rattle.frame.specs.declared.Frame.the-variants.{Ack, Short, Long}
 use Rattle.frame.specs.declared.Why.{Why}
 use Rattle.frame.specs.declared.Why.the-variants.{Checksum, Stop, Header, Length, Start}
-use Rattle.frame.specs.declared.Outcome.{Outcome}
-use Rattle.frame.specs.declared.Outcome.the-variants.{Complete, Incomplete, Invalid}
+use Rattle.frame.specs.declared.ParseOutcome.{ParseOutcome}
+use Rattle.frame.specs.declared.ParseOutcome.the-variants.{Complete, Incomplete, Invalid}
 
 -- a frame with the data that stand beside it; ACK and short have none
 abbrev pub telegramOf : Frame → List ℕ → Telegram
@@ -30,13 +30,13 @@ whyOf Length = badLength
 whyOf Start = start
 
 -- what parsing the bytes bs found
-abbrev pub parsedOf : List ℕ → Outcome → Parsed
+abbrev pub parsedOf : List ℕ → ParseOutcome → Parsed
 parsedOf bs (Complete frame len used) = complete (telegramOf frame (dataAt bs len)) used
 parsedOf bs Incomplete = incomplete
 parsedOf bs (Invalid why) = invalid (whyOf why)
 
 -- the number of data bytes that is told, and that of what was found: none where there is no telegram
-abbrev pub lengthTold : Outcome → ℕ
+abbrev pub lengthTold : ParseOutcome → ℕ
 lengthTold (Complete frame len used) = len
 lengthTold Incomplete = 0
 lengthTold (Invalid why) = 0
@@ -47,6 +47,6 @@ dataLength incomplete = 0
 dataLength (invalid w) = 0
 
 -- r tells what parsing bs finds, which is p; and the number of data bytes also of an ACK and a short telegram, where no data show it
-pub record Finds (bs : List ℕ) (p : Parsed) (r : Outcome) : Type 0 where
+pub record Finds (bs : List ℕ) (p : Parsed) (r : ParseOutcome) : Type 0 where
   pub tells : parsedOf bs r ≡ p
   pub counts : lengthTold r ≡ dataLength p

@@ -38,7 +38,7 @@ pub enum Why {
 
 // What parsing finds: a telegram with the number of its data bytes, which `data_of` gives, and of all bytes used;
 // more bytes are needed; or the bytes are no telegram.
-pub enum Outcome {
+pub enum ParseOutcome {
     Complete {
         frame: Frame,
         len: usize,
@@ -74,21 +74,21 @@ fn wide(b: u8) -> usize
 }
 
 // Bytes that begin with 10.
-fn parse_short(s: &[u8]) -> Outcome
+fn parse_short(s: &[u8]) -> ParseOutcome
     ensures { λ r. ⌜ Finds (now (s .entry)) (parseShort (now (s .entry))) r ⌝ }
 {
     if s.len() < 5 {
-        return Outcome::Incomplete;
+        return ParseOutcome::Incomplete;
     }
     let c = s[1];
     let a = s[2];
     if s[3] != std::num::wrapping_add_u8(c, a) {
-        return Outcome::Invalid(Why::Checksum);
+        return ParseOutcome::Invalid(Why::Checksum);
     }
     if s[4] != 0x16 {
-        return Outcome::Invalid(Why::Stop);
+        return ParseOutcome::Invalid(Why::Stop);
     }
-    Outcome::Complete {
+    ParseOutcome::Complete {
         frame: Frame::Short {
             control: c,
             address: a,
@@ -99,33 +99,33 @@ fn parse_short(s: &[u8]) -> Outcome
 }
 
 // Bytes that begin with 68.
-fn parse_long(s: &[u8]) -> Outcome
+fn parse_long(s: &[u8]) -> ParseOutcome
     ensures { λ r. ⌜ Finds (now (s .entry)) (parseLong (now (s .entry))) r ⌝ }
 {
     if s.len() < 4 {
-        return Outcome::Incomplete;
+        return ParseOutcome::Incomplete;
     }
     let l = wide(s[1]);
     if wide(s[2]) != l {
-        return Outcome::Invalid(Why::Header);
+        return ParseOutcome::Invalid(Why::Header);
     }
     if s[3] != 0x68 {
-        return Outcome::Invalid(Why::Header);
+        return ParseOutcome::Invalid(Why::Header);
     }
     if l < 3 {
-        return Outcome::Invalid(Why::Length);
+        return ParseOutcome::Invalid(Why::Length);
     }
     if s.len() < l + 6 {
-        return Outcome::Incomplete;
+        return ParseOutcome::Incomplete;
     }
     let total = checksum(&s[4..4 + l]);
     if s[4 + l] != total {
-        return Outcome::Invalid(Why::Checksum);
+        return ParseOutcome::Invalid(Why::Checksum);
     }
     if s[5 + l] != 0x16 {
-        return Outcome::Invalid(Why::Stop);
+        return ParseOutcome::Invalid(Why::Stop);
     }
-    Outcome::Complete {
+    ParseOutcome::Complete {
         frame: Frame::Long {
             control: s[4],
             address: s[5],
@@ -137,15 +137,15 @@ fn parse_long(s: &[u8]) -> Outcome
 }
 
 // The telegram in front of some bytes.
-pub fn parse(s: &[u8]) -> Outcome
+pub fn parse(s: &[u8]) -> ParseOutcome
     ensures { λ r. ⌜ Finds (now (s .entry)) (Rattle.frame.specs.Frame.parse (now (s .entry))) r ⌝ }
 {
     if s.len() == 0 {
-        return Outcome::Incomplete;
+        return ParseOutcome::Incomplete;
     }
     let b = s[0];
     if b == ACK {
-        return Outcome::Complete {
+        return ParseOutcome::Complete {
             frame: Frame::Ack,
             len: ACK_DATA,
             used: 1,
@@ -157,7 +157,7 @@ pub fn parse(s: &[u8]) -> Outcome
     if b == 0x68 {
         return parse_long(s);
     }
-    Outcome::Invalid(Why::Start)
+    ParseOutcome::Invalid(Why::Start)
 }
 
 // The data of a long telegram in front of some bytes, as a part of them; fewer where the bytes end before.

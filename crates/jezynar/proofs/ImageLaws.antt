@@ -10,21 +10,21 @@ use borrow.Author.Tests.{ltb-false}
 use Rattle.laws.specs.Words.{at}
 use Rattle.laws.proofs.Lists.{if-all, if-with}
 use Rattle.meter.specs.Meter.{rates}
-use Rattle.rules.specs.Tables.{isRate}
-use Rattle.meter_list.specs.Layout.{Layout, fits, noFit, readRecords}
-use Rattle.rules.specs.Check.{allPass}
-use Rattle.scenarios.specs.Opening.{mostMeters, capacity, Opened, opens, refuses, refusesRecord, OpeningGives, openRecords, openList}
-use Rattle.refusals.specs.Refusals.{refusalNumber}
-use Rattle.refusals.specs.declared.Refusal.{Refusal}
-use Rattle.refusals.specs.declared.Refusal.the-variants.{Accepted, Version, Length, Capacity, AtRecord, Baud}
-use Rattle.rules.specs.Checked.{failNumber}
-use Rattle.rules.specs.declared.Failing.{Failing}
-use Rattle.rules.specs.declared.Failing.the-variants.{BadPrimary, BadId, BadManufacturer, BadMedium, BadBaud, BadFault}
-use Rattle.bus.specs.Plain.{Plain}
-use Rattle.image.specs.Image.{imageOf, IsImage}
+use Rattle.list_check.specs.Tables.{isRate}
+use Rattle.list.specs.Layout.{Layout, fits, noFit, readRecords}
+use Rattle.list_check.specs.Check.{allPass}
+use Rattle.list_open.specs.Opening.{mostMeters, capacity, Opened, opens, refuses, refusesRecord, OpeningGives, openRecords, openList}
+use Rattle.list_check.specs.Refusals.{refusalNumber}
+use Rattle.list_check.specs.declared.refusal.Refusal.{Refusal}
+use Rattle.list_check.specs.declared.refusal.Refusal.the-variants.{Accepted, Version, Length, Capacity, AtRecord, Baud}
+use Rattle.list_check.specs.Checked.{failNumber}
+use Rattle.list_check.specs.declared.Failing.{Failing}
+use Rattle.list_check.specs.declared.Failing.the-variants.{BadPrimary, BadId, BadManufacturer, BadMedium, BadBaud, BadFault}
+use Rattle.segment.specs.Plain.{Plain}
+use Rattle.segment_image.specs.Image.{encodeImage, IsImage}
 
 pub image-of : {s t : Plain} {bs : List ℕ} → IsImage s bs → s ≡ t → IsImage t bs
-image-of i e = record { bytes = i .bytes ∙ ap imageOf e; means = i .means ∙ e }
+image-of i e = record { bytes = i .bytes ∙ ap encodeImage e; means = i .means ∙ e }
 
 -- ---- opening: the number and the index
 

@@ -2,20 +2,20 @@
 ghost use mathlib.Core.Path.{_≡_};
 ghost use Prim.Native.Nat.{_+_, _*_, _/_, _%_, _<_};
 ghost use Rattle.frame.specs.Frame;
-ghost use Rattle.telegram_writer.specs.Writer.{write};
-ghost use Rattle.refusals.specs.Refusals.{refusalNumber, refusalIndex};
-ghost use Rattle.scenarios.specs.Opening.{mostMeters};
-ghost use Rattle.bus.specs.Plain.{blank};
-ghost use Rattle.bus.specs.Calls;
-ghost use Rattle.send.specs.Send;
-ghost use Rattle.image.specs.Image.{imaged, imageLen, IsImage};
-ghost use Rattle.image.specs.Answers.{DoneImage, OpenedImage, ReceivedImage, LeftImage};
-ghost use Rattle.search_call.specs.Searches.{searchBy, Searches};
-ghost use Rattle.telegram_calls.specs.Telegrams.{Parses, telegramBy, Writes};
-use bus::Segment;
-use clock::Clock;
-use image::IMAGE;
-use refusals::Refusal;
+ghost use Rattle.frame_write.specs.Writer.{write};
+ghost use Rattle.list_check.specs.Refusals.{refusalNumber, refusalIndex};
+ghost use Rattle.list_open.specs.Opening.{mostMeters};
+ghost use Rattle.segment.specs.Plain.{blank};
+ghost use Rattle.segment.specs.Calls;
+ghost use Rattle.segment_send.specs.Send;
+ghost use Rattle.segment_image.specs.Image.{decodeImage, imageLen, IsImage};
+ghost use Rattle.segment_image.specs.Answers.{DoneImage, OpenedImage, ReceivedImage, LeftImage};
+ghost use Rattle.c_search.specs.Searches.{searchBy, Searches};
+ghost use Rattle.c_frame.specs.Telegrams.{Parses, telegramBy, Writes};
+use list_check::refusal::Refusal;
+use segment::Segment;
+use segment_image::IMAGE;
+use time_clock::Clock;
 
 const LEN: usize = IMAGE;
 
@@ -33,21 +33,21 @@ pub extern "C" fn segment_new(image: &mut [u8; IMAGE])
     ensures { λ _. ⌜ IsImage blank (now (image .exit)) ⌝ }
 {
     let fresh = Segment::new();
-    image::write_image(fresh, image);
+    segment_image::write_image(fresh, image);
 }
 
 // The one image of the segment that the bytes mean, in their place.
 #[no_mangle]
 pub extern "C" fn segment_tidy(image: &mut [u8; IMAGE])
-    ensures { λ _. ⌜ IsImage (imaged (now (image .entry))) (now (image .exit)) ⌝ }
+    ensures { λ _. ⌜ IsImage (decodeImage (now (image .entry))) (now (image .exit)) ⌝ }
 {
-    image::tidy(image)
+    segment_image::tidy(image)
 }
 
 // Empties the queue alone.
 #[no_mangle]
 pub extern "C" fn segment_clear(image: &mut [u8; IMAGE])
-    ensures { λ _. ⌜ LeftImage (Calls.clear (imaged (now (image .entry)))) (now (image .entry)) (now (image .exit)) ⌝ }
+    ensures { λ _. ⌜ LeftImage (Calls.clear (decodeImage (now (image .entry)))) (now (image .entry)) (now (image .exit)) ⌝ }
 {
     segment_calls::clear(image)
 }
@@ -55,7 +55,7 @@ pub extern "C" fn segment_clear(image: &mut [u8; IMAGE])
 // Sets the bus baud and empties the input. 10: no rate.
 #[no_mangle]
 pub extern "C" fn segment_set_baud(image: &mut [u8; IMAGE], baud: u32) -> u32
-    ensures { λ r. ⌜ DoneImage (Calls.changeBaud baud (imaged (now (image .entry)))) r (now (image .entry)) (now (image .exit)) ⌝ }
+    ensures { λ r. ⌜ DoneImage (Calls.changeBaud baud (decodeImage (now (image .entry)))) r (now (image .entry)) (now (image .exit)) ⌝ }
 {
     let answer = segment_calls::set_baud(image, baud);
     segment_calls::changing_number(answer)
@@ -66,8 +66,8 @@ fn packed(refusal: Refusal) -> u32
     requires { ⌜ refusalIndex refusal < mostMeters ⌝ }
     ensures { λ r. ⌜ r ≡ refusalNumber refusal + 256 * refusalIndex refusal ⌝ }
 {
-    let index = refusals::refusal_index(refusal);
-    let number = refusals::refusal_number(refusal);
+    let index = list_check::refusal::refusal_index(refusal);
+    let number = list_check::refusal::refusal_number(refusal);
     number as u32 + 256 * (index as u32)
 }
 
@@ -98,7 +98,7 @@ pub extern "C" fn segment_send(
     hour: u32,
     minute: u32,
 ) -> u32
-    ensures { λ r. ⌜ DoneImage (Send.send (now (piece .entry)) (record { now = secs; year = year; month = month; day = day; hour = hour; minute = minute }) (imaged (now (image .entry)))) r (now (image .entry)) (now (image .exit)) ⌝ }
+    ensures { λ r. ⌜ DoneImage (Send.send (now (piece .entry)) (record { now = secs; year = year; month = month; day = day; hour = hour; minute = minute }) (decodeImage (now (image .entry)))) r (now (image .entry)) (now (image .exit)) ⌝ }
 {
     let clock = Clock {
         now: secs,
@@ -108,14 +108,14 @@ pub extern "C" fn segment_send(
         hour: hour,
         minute: minute,
     };
-    let answer = send::send(image, piece, clock);
-    send::sending_number(answer)
+    let answer = segment_send::send(image, piece, clock);
+    segment_send::sending_number(answer)
 }
 
 // Hands out the least of 32, the lent length and the queued bytes.
 #[no_mangle]
 pub extern "C" fn segment_receive(image: &mut [u8; IMAGE], lent: &mut [u8]) -> usize
-    ensures { λ r. ⌜ ReceivedImage (Calls.receive (now (lent .entry)) (imaged (now (image .entry)))) r (now (lent .exit)) (now (image .entry)) (now (image .exit)) ⌝ }
+    ensures { λ r. ⌜ ReceivedImage (Calls.receive (now (lent .entry)) (decodeImage (now (image .entry)))) r (now (lent .exit)) (now (image .entry)) (now (image .exit)) ⌝ }
 {
     segment_calls::receive(image, lent)
 }
@@ -137,9 +137,9 @@ pub extern "C" fn segment_search(
     entries: &mut [u8],
     summary: &mut [u8; 12],
 ) -> u32
-    ensures { λ r. ⌜ Searches (searchBy (record { now = secs; year = year; month = month; day = day; hour = hour; minute = minute }) allowance (now (entries .entry)) (imaged (now (image .entry)))) r (now (image .entry)) (now (image .exit)) (now (entries .entry)) (now (entries .exit)) (now (summary .entry)) (now (summary .exit)) ⌝ }
+    ensures { λ r. ⌜ Searches (searchBy (record { now = secs; year = year; month = month; day = day; hour = hour; minute = minute }) allowance (now (entries .entry)) (decodeImage (now (image .entry)))) r (now (image .entry)) (now (image .exit)) (now (entries .entry)) (now (entries .exit)) (now (summary .entry)) (now (summary .exit)) ⌝ }
 {
-    search_call::search_image(
+    c_search::search_image(
         image,
         secs,
         year,
@@ -160,7 +160,7 @@ pub extern "C" fn segment_search(
 pub extern "C" fn frame_parse(bytes: &[u8], out: &mut [u8; 16]) -> u32
     ensures { λ r. ⌜ Parses (Rattle.frame.specs.Frame.parse (now (bytes .entry))) r (now (out .entry)) (now (out .exit)) ⌝ }
 {
-    telegram_calls::parse(bytes, out)
+    c_frame::parse(bytes, out)
 }
 
 // Writes a telegram. 11: data over 252; 12: lent bytes too few.
@@ -175,5 +175,5 @@ pub extern "C" fn frame_encode(
 ) -> u32
     ensures { λ r. ⌜ Writes (write (telegramBy kind control address ci (now («data» .entry))) (now (lent .entry))) r (now (lent .exit)) ⌝ }
 {
-    telegram_calls::encode(kind, control, address, ci, data, lent)
+    c_frame::encode(kind, control, address, ci, data, lent)
 }

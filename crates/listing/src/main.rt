@@ -54,7 +54,7 @@ fn main() {
         return;
     }
     let count = input.count;
-    let mut out = [0u8; report_text::TEXT];
+    let mut out = [0u8; listing_text::TEXT];
     let len = listing_text::listing(&buffer[..count], &mut out);
     let written = io::write_all(STDOUT_FILENO, &out[..len]);
     if !written {

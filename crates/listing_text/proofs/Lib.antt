@@ -1,2 +1,4 @@
+pub mod TextLaws
+pub mod WorkedText
 pub mod ListingLaws
 pub mod Worked

@@ -4,24 +4,24 @@ use mathlib.Core.Bool.{false}
 use mathlib.Core.List.{List, _++_}
 use Prim.Native.Nat.{ℕ, _≤_}
 use native.Mathlib.Omega.{arith}
-use Rattle.seconds.specs.Seconds.{zeroSeconds}
+use Rattle.time_seconds.specs.Seconds.{zeroSeconds}
 use lib.ListN.{length, take, drop, length-replicate}
 use lib.Seq.{take-at, length-take-le}
 use borrow.Author.Tests.{eq-eqb, ne-eqb}
 use Rattle.search.specs.Site.{site, october}
-use Rattle.clock.specs.declared.Clock.{Clock}
-use Rattle.scenarios.specs.Opening.{OpeningGives, openList, capacity}
-use Rattle.bus.specs.Plain.{Plain, blank}
-use Rattle.bus.specs.Calls.{afterOpening}
-use Rattle.refusals.specs.declared.Refusal.{Refusal}
-use Rattle.refusals.specs.Refusals.{refusalNumber, refusalIndex}
-use Rattle.image.specs.Image.{imaged, IsImage}
-use Rattle.image.specs.Answers.{OpenedImage}
+use Rattle.time_clock.specs.declared.Clock.{Clock}
+use Rattle.list_open.specs.Opening.{OpeningGives, openList, capacity}
+use Rattle.segment.specs.Plain.{Plain, blank}
+use Rattle.segment.specs.Calls.{afterOpening}
+use Rattle.list_check.specs.declared.refusal.Refusal.{Refusal}
+use Rattle.list_check.specs.Refusals.{refusalNumber, refusalIndex}
+use Rattle.segment_image.specs.Image.{decodeImage, IsImage}
+use Rattle.segment_image.specs.Answers.{OpenedImage}
 use Rattle.search.specs.declared.EntryRecord.{EntryRecord}
 use Rattle.search.specs.declared.Entries.{Entries}
 use Rattle.search.specs.View.{entriesGive, SearchesIn}
 use Rattle.search.specs.SearchCall.{Searched, searchCall}
-use Rattle.report_text.specs.Text.{reportOf, refusalOf, Prints}
+use Rattle.listing_text.specs.Text.{reportOf, refusalOf, Prints}
 use Rattle.listing_text.specs.Listing.{lentRecords, listIn, listedSearch, listingText, Lists}
 use Rattle.listing_text.specs.ProgramListing.{OpensSite}
 
@@ -70,7 +70,7 @@ module _ {input lent after : List ℕ} {r : ℕ} where
 
   -- f is a search in the image `old`
   pub lists-report : (m i n : ℕ) (old new : List ℕ) (k : Clock) (f : Entries) → OpenedAs input m i → n ≡ m → n ≡ 0
-      → imaged old ≡ site (listIn input) → k ≡ october → SearchesIn old k 10000 capacity f new → length (f .entries) ≡ capacity
+      → decodeImage old ≡ site (listIn input) → k ≡ october → SearchesIn old k 10000 capacity f new → length (f .entries) ≡ capacity
       → Prints lent (reportOf (take (f .count) (f .entries)) (f .probes)) r after → Lists input lent r after
   unfolding listedSearch capacity
   lists-report m i n old new k f o e z a b c d p =
@@ -82,7 +82,7 @@ module _ {input lent after : List ℕ} {r : ℕ} where
               number = n;
               index = i;
               opening = rw e o;
-              is = sym (text-report n (entriesGive f (imaged new) lentRecords) (f .entries) (drop (f .count) lentRecords) z refl (omega (arith, c .fits))) ∙ ap (listingText n) g;
+              is = sym (text-report n (entriesGive f (decodeImage new) lentRecords) (f .entries) (drop (f .count) lentRecords) z refl (omega (arith, c .fits))) ∙ ap (listingText n) g;
             };
         prints = p;
       }

@@ -5,37 +5,37 @@ use Prim.Native.Nat.{ℕ}
 use lib.Ieee.{round, sub}
 use Rattle.search.specs.Site.{site, october}
 use Rattle.frame.specs.Frame.{sum, encode, parseShort, parseBody, parseLong, parse}
-use Rattle.values.specs.Values.{little, bcd}
-use Rattle.identity.specs.Identity.{manufacturerCode, idBytes, nibbles, inBase}
-use Rattle.dates.specs.Dates.{typeG, typeF}
-use Rattle.seconds.specs.Seconds.{whole, notBelow0, elapsedOf}
-use Rattle.meter.specs.Meter.{hears, put}
-use Rattle.asking.specs.Asking.{asked}
-use Rattle.matching.specs.Matching.{alike, matches}
-use Rattle.readout.specs.Response.{userData, response, damaged, readout}
-use Rattle.userdata.specs.UserData.{fixedData, head, clockF, heatFirst, heatSecond, electricity, water}
-use Rattle.hear.specs.Hear.{target, nke, request, select, commanded, listens, hear}
+use Rattle.numbers.specs.Values.{little, bcd}
+use Rattle.meter_identity.specs.Identity.{manufacturerCode, idBytes, nibbles, inBase}
+use Rattle.time_dates.specs.Dates.{typeG, typeF}
+use Rattle.time_seconds.specs.Seconds.{whole, notBelow0, elapsedOf}
+use Rattle.meter.specs.Meter.{hears, offered}
+use Rattle.meter_request.specs.Asking.{asked}
+use Rattle.meter_select.specs.Matching.{alike, matches}
+use Rattle.meter_reply.specs.Response.{userData, response, damaged, readout}
+use Rattle.meter_data.specs.UserData.{fixedData, head, clockF, heatFirst, heatSecond, electricity, water}
+use Rattle.meter_step.specs.Hear.{target, nke, request, select, commanded, listens, hear}
 use Rattle.meter.specs.Meter.{rates}
-use Rattle.rules.specs.Tables.{media, faults}
-use Rattle.meter_list.specs.Layout.{readTexts, readRecords}
-use Rattle.rules.specs.Check.{goodId, goodManufacturer, check}
-use Rattle.scenarios.specs.Opening.{capacity, openRecords, openList}
-use Rattle.fresh_meter.specs.Fresh.{otherThanBus, ownBaud, seedOf, fresh}
-use Rattle.bus.specs.Plain.{blank}
-use Rattle.bus.specs.Calls.{afterOpening}
-use Rattle.replies.specs.Replies.{joined}
+use Rattle.list_check.specs.Tables.{media, faults}
+use Rattle.list.specs.Layout.{readTexts, readRecords}
+use Rattle.list_check.specs.Check.{goodId, goodManufacturer, check}
+use Rattle.list_open.specs.Opening.{capacity, openRecords, openList}
+use Rattle.list_meter.specs.Fresh.{otherThanBus, ownBaud, seedOf, fresh}
+use Rattle.segment.specs.Plain.{blank}
+use Rattle.segment.specs.Calls.{afterOpening}
+use Rattle.segment_replies.specs.Replies.{joined}
 use Rattle.segment_telegram.specs.Handled.{heardBy, handled}
-use Rattle.send.specs.Steps.{steps, settled}
-use Rattle.send.specs.Send.{send}
-use Rattle.clock.specs.Fields.{goodClock}
-use Rattle.walk.specs.Walk.{maskDigits, mask, reading, ask, probe, good, idOf, entryOf, read, ten, walk, wholeWalk}
+use Rattle.segment_send.specs.Steps.{steps, handledAll}
+use Rattle.segment_send.specs.Send.{send}
+use Rattle.time_clock.specs.Fields.{goodClock}
+use Rattle.search_walk.specs.Walk.{maskDigits, mask, reading, ask, probe, good, idOf, entryOf, read, ten, walk, wholeWalk}
 use Rattle.search.specs.SearchCall.{searchCall}
-use Rattle.report_text.specs.Text.{inDecimal, numberText, line, firstLine, reportOf, refusalOf}
+use Rattle.listing_text.specs.Text.{inDecimal, numberText, line, firstLine, reportOf, refusalOf}
 use Rattle.listing_text.specs.Listing.{lentRecords, listIn, listedSearch, listingText, ListingGives}
 
 -- to unfold this is to unfold every definition that a listing computes with
 everything : ℕ
-unfolding sum encode parseShort parseBody parseLong parse little bcd typeG typeF manufacturerCode idBytes nibbles inBase whole notBelow0 elapsedOf round sub hears put alike matches asked fixedData head clockF heatFirst heatSecond electricity water userData response damaged readout rates target nke request select commanded listens hear media faults readTexts readRecords goodId goodManufacturer check capacity otherThanBus ownBaud seedOf fresh openRecords openList blank joined heardBy handled steps settled afterOpening goodClock send maskDigits mask reading ask probe good idOf entryOf read ten walk wholeWalk searchCall inDecimal numberText line firstLine reportOf refusalOf site october lentRecords listIn listedSearch listingText
+unfolding sum encode parseShort parseBody parseLong parse little bcd typeG typeF manufacturerCode idBytes nibbles inBase whole notBelow0 elapsedOf round sub hears offered alike matches asked fixedData head clockF heatFirst heatSecond electricity water userData response damaged readout rates target nke request select commanded listens hear media faults readTexts readRecords goodId goodManufacturer check capacity otherThanBus ownBaud seedOf fresh openRecords openList blank joined heardBy handled steps handledAll afterOpening goodClock send maskDigits mask reading ask probe good idOf entryOf read ten walk wholeWalk searchCall inDecimal numberText line firstLine reportOf refusalOf site october lentRecords listIn listedSearch listingText
 everything = 0
 
 -- water meters 12345678 and 12345699

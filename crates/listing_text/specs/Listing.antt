@@ -9,14 +9,14 @@ use lib.Dec.{eqb}
 use lib.ListN.{take, replicate}
 use Rattle.search.specs.Site.{site, october}
 use Rattle.laws.specs.Words.{if_then_else_}
-use Rattle.clock.specs.declared.Clock.{Clock}
-use Rattle.scenarios.specs.Opening.{OpeningGives, openList, capacity}
-use Rattle.bus.specs.Plain.{Plain, blank}
-use Rattle.bus.specs.Calls.{afterOpening}
+use Rattle.time_clock.specs.declared.Clock.{Clock}
+use Rattle.list_open.specs.Opening.{OpeningGives, openList, capacity}
+use Rattle.segment.specs.Plain.{Plain, blank}
+use Rattle.segment.specs.Calls.{afterOpening}
 use Rattle.search.specs.declared.EntryRecord.{EntryRecord}
 use Rattle.search.specs.declared.Kind.the-variants.{One}
 use Rattle.search.specs.SearchCall.{Searched, searchCall}
-use Rattle.report_text.specs.Text.{reportOf, refusalOf, Prints}
+use Rattle.listing_text.specs.Text.{reportOf, refusalOf, Prints}
 
 -- The records lent to the search, one for each meter that a list can have. What stands in them is not written.
 unfoldable pub lentRecords : List EntryRecord

@@ -3,13 +3,13 @@ use mathlib.Core.Path.{_≡_}
 use mathlib.Core.Bool.{false}
 use mathlib.Core.List.{List}
 use Prim.Native.Nat.{ℕ}
-use Rattle.scenarios.specs.Opening.{OpeningGives, openList}
-use Rattle.refusals.specs.declared.Refusal.{Refusal}
-use Rattle.refusals.specs.Refusals.{refusalNumber, refusalIndex}
-use Rattle.image.specs.Image.{imaged}
+use Rattle.list_open.specs.Opening.{OpeningGives, openList}
+use Rattle.list_check.specs.declared.refusal.Refusal.{Refusal}
+use Rattle.list_check.specs.Refusals.{refusalNumber, refusalIndex}
+use Rattle.segment_image.specs.Image.{decodeImage}
 use Rattle.search.specs.Site.{site}
 
 -- the answer is one that 01 allows, and the image means the site
 pub record OpensSite (list : List ℕ) (r : Refusal) (image : List ℕ) : Type 0 where
   pub answer : OpeningGives (openList list 2400 false) (refusalNumber r) (refusalIndex r)
-  pub segment : imaged image ≡ site list
+  pub segment : decodeImage image ≡ site list

@@ -3,14 +3,19 @@ ghost use mathlib.Core.Path.{_≡_};
 ghost use Rattle.search.specs.Site.{october};
 ghost use Rattle.listing_text.specs.Listing.{listIn, Lists};
 ghost use Rattle.listing_text.specs.ProgramListing.{OpensSite};
-use bus::METERS;
-use bus::Segment;
-use clock::Clock;
-use image::IMAGE;
 use laws::least;
-use refusals::Refusal;
-use report_text::TEXT;
-use report_text::Written;
+use list_check::refusal::Refusal;
+use segment::METERS;
+use segment::Segment;
+use segment_image::IMAGE;
+use time_clock::Clock;
+
+mod report; // report.rt: the text for the entries of a search, and for a refused list
+
+use report::Printed;
+
+// Line 1 has at most 38 bytes, an entry's line at most 25.
+pub const TEXT: usize = 38 + 25 * METERS;
 
 // Input past so many bytes is not read.
 const INPUT: usize = 65536;
@@ -32,7 +37,7 @@ fn clock() -> Clock
 fn open_list(image: &mut [u8; IMAGE], input: &[u8]) -> Refusal
     ensures { λ r. ⌜ OpensSite (listIn (now (input .entry))) r (now (image .exit)) ⌝ }
 {
-    image::write_image(Segment::new(), image);
+    segment_image::write_image(Segment::new(), image);
     let n = least(INPUT, input.len());
     segment_calls::open(image, &input[..n], 2400, false, 0.0)
 }
@@ -41,18 +46,18 @@ fn no_image() -> [u8; IMAGE] {
     [0u8; IMAGE]
 }
 
-fn list_into(input: &[u8], lent: [u8; TEXT]) -> Written
+fn list_into(input: &[u8], lent: [u8; TEXT]) -> Printed
     ensures { λ r. ⌜ Lists (now (input .entry)) lent (r .len) (r .bytes) ⌝ }
 {
     let mut image = no_image();
     let answer = open_list(&mut image, input);
-    let n = refusals::refusal_number(answer);
+    let n = list_check::refusal::refusal_number(answer);
     if n != 0 {
-        return report_text::refusal(lent, n as u32);
+        return report::refusal(lent, n as u32);
     }
     let found = search::search_listed(&mut image, clock(), 10000, METERS);
     let entries = found.entries;
-    report_text::report(lent, entries, found.count, found.probes)
+    report::report(lent, entries, found.count, found.probes)
 }
 
 // What the listing program writes for what it reads: the text at the start of the lent bytes, and its length.

@@ -79,5 +79,5 @@ unfoldable pub hears : PlainMeter → Bool
 hears m = if flaky (m .fault) then m .hearsNext else true
 
 -- the meter once a telegram was put to it: a flaky one hears the next exactly if it did not hear this one
-unfoldable pub put : PlainMeter → PlainMeter
-put m = if flaky (m .fault) then withHearsNext (not (m .hearsNext)) m else m
+unfoldable pub offered : PlainMeter → PlainMeter
+offered m = if flaky (m .fault) then withHearsNext (not (m .hearsNext)) m else m

@@ -1,5 +1,5 @@
 -- The program's meter in the terms of the definitions.
-use Rattle.identity.specs.Identity.{digitsOf}
+use Rattle.meter_identity.specs.Identity.{digitsOf}
 use Rattle.meter.specs.declared.Meter.{Meter}
 use Rattle.meter.specs.PlainMeter.{PlainMeter}
 

@@ -1,6 +1,6 @@
 // A meter with some of its parts changed, and whether it hears.
 ghost use mathlib.Core.Path.{_≡_};
-ghost use Rattle.meter.specs.Meter.{flaky, hears, put, reset, withPrimary, withBaud, withSelected, withHearsNext};
+ghost use Rattle.meter.specs.Meter.{flaky, hears, offered, reset, withPrimary, withBaud, withSelected, withHearsNext};
 ghost use Rattle.meter.specs.View.{plainMeter};
 use super::Fault;
 use super::LastFcb;
@@ -89,8 +89,8 @@ pub fn hears(m: Meter) -> bool
 }
 
 // The meter once a telegram was put to it.
-pub fn put(m: Meter) -> Meter
-    ensures { λ r. ⌜ plainMeter r ≡ put (plainMeter m) ⌝ }
+pub fn offered(m: Meter) -> Meter
+    ensures { λ r. ⌜ plainMeter r ≡ offered (plainMeter m) ⌝ }
 {
     let f = m.fault;
     if is_flaky(f) {

@@ -9,12 +9,12 @@ use lib.Ieee.{Float}
 use Rattle.laws.specs.Words.{if_then_else_, at}
 use Rattle.laws.proofs.Lists.{if-all, if-with}
 use Rattle.frame.specs.Frame.{Telegram, ack, short, long}
-use Rattle.clock.specs.declared.Clock.{Clock}
+use Rattle.time_clock.specs.declared.Clock.{Clock}
 use Rattle.meter.specs.PlainMeter.{PlainMeter}
 use Rattle.meter.specs.Meter.{withSelected}
-use Rattle.matching.specs.Matching.{matches, idMatches}
-use Rattle.hear.specs.Hear.{Heard, quiet, isNke, isReqUd2, fcbOf, isSndUd, isSelect, reaches, target, nke, request, select, commanded, listens, hear}
-use Rattle.meter_concern.specs.Concern.{concerns}
+use Rattle.meter_select.specs.Matching.{matches, idMatches}
+use Rattle.meter_step.specs.Hear.{Heard, quiet, isNke, isReqUd2, fcbOf, isSndUd, isSelect, reaches, target, nke, request, select, commanded, listens, hear}
+use Rattle.meter_concern.specs.ProgramConcern.{concerns}
 
 or-none : (a b : Bool) → (a || b) ≡ false → (a ≡ false) × (b ≡ false)
 or-none false b h = (refl, h)

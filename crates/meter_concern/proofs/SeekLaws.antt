@@ -12,14 +12,14 @@ use lib.Bits.{bitAnd, and-zero-r, and-mask, and-block, and-le-l}
 use Rattle.laws.specs.Words.{if_then_else_, at}
 use Rattle.laws.proofs.Lists.{and-l, and-r, and-both, four}
 use Rattle.numbers.specs.Number.{number}
-use Rattle.identity.specs.Identity.{nibbles, digitsOf}
+use Rattle.meter_identity.specs.Identity.{nibbles, digitsOf}
 use Rattle.frame.specs.Frame.{long}
-use Rattle.hear.specs.Hear.{isSelect, reaches}
-use Rattle.meter_concern.specs.Concern.{concerns}
-use Rattle.matching.specs.Matching.{alike, idMatches}
-use Rattle.matching.proofs.MatchLaws.{two, by-bytes}
+use Rattle.meter_step.specs.Hear.{isSelect, reaches}
+use Rattle.meter_concern.specs.ProgramConcern.{concerns}
+use Rattle.meter_select.specs.Matching.{alike, idMatches}
+use Rattle.meter_select.proofs.MatchLaws.{two, by-bytes}
 use Rattle.meter_concern.specs.declared.Seeking.{Seeking}
-use Rattle.meter_concern.specs.Seeking.{knownDigit, knownDigits, firstBytes, soughtBy, Seeks}
+use Rattle.meter_concern.specs.ProgramSeeking.{knownDigit, knownDigits, firstBytes, soughtBy, Seeks}
 
 -- ---- tests
 

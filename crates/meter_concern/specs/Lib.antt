@@ -1,2 +1,2 @@
-pub mod Concern
-pub mod Seeking
+pub mod ProgramConcern
+pub mod ProgramSeeking

@@ -6,11 +6,11 @@ ghost use Prim.Native.Nat.{ℕ, _*_, _<_};
 ghost use Rattle.numbers.specs.Number.{number};
 ghost use Rattle.frame.specs.Frame.{long};
 ghost use Rattle.frame.specs.View.{telegramOf};
-ghost use Rattle.identity.specs.Identity.{digitsOf};
-ghost use Rattle.matching.specs.Matching.{idMatches};
-ghost use Rattle.hear.specs.Hear.{reaches};
-ghost use Rattle.meter_concern.specs.Concern.{concernsBy};
-ghost use Rattle.meter_concern.specs.Seeking.{knownDigit, knownDigits, soughtBy, Seeks};
+ghost use Rattle.meter_identity.specs.Identity.{digitsOf};
+ghost use Rattle.meter_select.specs.Matching.{idMatches};
+ghost use Rattle.meter_step.specs.Hear.{reaches};
+ghost use Rattle.meter_concern.specs.ProgramConcern.{concernsBy};
+ghost use Rattle.meter_concern.specs.ProgramSeeking.{knownDigit, knownDigits, soughtBy, Seeks};
 use frame::Frame;
 use numbers::four;
 

@@ -1,1 +1,3 @@
+pub mod ValueLaws
+pub mod Worked
 pub mod NumberLaws

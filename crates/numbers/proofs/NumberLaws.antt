@@ -7,7 +7,7 @@ use native.Mathlib.Omega.{arith}
 use lib.ListN.{take}
 use lib.Seq.{getD-take}
 use Rattle.laws.specs.Words.{at}
-use Rattle.values.specs.Values.{little}
+use Rattle.numbers.specs.Values.{little}
 use Rattle.numbers.specs.Number.{number}
 
 -- the low bytes, then the high ones

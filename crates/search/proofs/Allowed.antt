@@ -9,10 +9,10 @@ use lib.ListN.{length}
 use borrow.Author.Tests.{eq-eqb, eqb-true, le-ltb, ltb-false}
 use Rattle.laws.specs.Words.{if_then_else_}
 use Rattle.laws.proofs.Lists.{and-l, and-r}
-use Rattle.clock.specs.declared.Clock.{Clock}
-use Rattle.bus.specs.Plain.{Plain}
-use Rattle.clock.specs.Fields.{goodClock}
-use Rattle.walk.specs.Walk.{wholeWalk}
+use Rattle.time_clock.specs.declared.Clock.{Clock}
+use Rattle.segment.specs.Plain.{Plain}
+use Rattle.time_clock.specs.Fields.{goodClock}
+use Rattle.search_walk.specs.Walk.{wholeWalk}
 use Rattle.search.specs.declared.EntryRecord.{EntryRecord}
 use Rattle.search.specs.SearchCall.{Searched, searchRefused, searchGave, searchCall}
 

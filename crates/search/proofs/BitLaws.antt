@@ -5,7 +5,7 @@ use Prim.Native.Nat.{ℕ, zero, suc, _-_, _≤_}
 use native.Mathlib.Omega.{arith}
 use lib.Bits.{bitAnd, bitOr, bitXor}
 use Rattle.laws.specs.Words.{bitIf}
-use Rattle.search.specs.Packing.{on}
+use Rattle.search.specs.ProgramPacking.{on}
 
 pub data Bit : ℕ → Bool → Type 0 where
   bit0 : Bit 0 false

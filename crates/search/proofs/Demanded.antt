@@ -7,19 +7,19 @@ use native.Mathlib.Omega.{arith}
 use lib.ListN.{length}
 use Rattle.laws.specs.Words.{Every}
 use Rattle.laws.proofs.Lists.{every-keep}
-use Rattle.clock.specs.declared.Clock.{Clock}
-use Rattle.bus.specs.Plain.{Plain}
-use Rattle.walk.specs.Walk.{probe, read, Walked, wholeWalk}
-use Rattle.walk.specs.Entries.{atBus, atBusBaud, D, sumTo}
-use Rattle.walk.proofs.Seen.{IdDigits, WellFormed}
-use Rattle.walk.proofs.Bound.{D-le}
-use Rattle.walk.proofs.Price.{steady-by}
-use Rattle.walk.proofs.Upward.{Counted, walk-counted, walkDown, whole-down}
-use Rattle.walk.proofs.Instance.{ready, walk-found}
-use Rattle.walk.proofs.Fits.{well-sized, walk-fits-meters}
+use Rattle.time_clock.specs.declared.Clock.{Clock}
+use Rattle.segment.specs.Plain.{Plain}
+use Rattle.search_walk.specs.Walk.{probe, read, Walked, wholeWalk}
+use Rattle.search_walk.specs.Entries.{atBus, atBusBaud, D, sumTo}
+use Rattle.search_walk.proofs.Seen.{IdDigits, WellFormed}
+use Rattle.search_walk.proofs.Bound.{D-le}
+use Rattle.search_walk.proofs.Price.{steady-by}
+use Rattle.search_walk.proofs.Upward.{Counted, walk-counted, walkDown, whole-down}
+use Rattle.search_walk.proofs.Instance.{ready, walk-found}
+use Rattle.search_walk.proofs.Fits.{well-sized, walk-fits-meters}
 use Rattle.search.specs.declared.EntryRecord.{EntryRecord}
 use Rattle.search.specs.SearchCall.{Searched, searchCall}
-use Rattle.search.specs.Demand.{Demanded}
+use Rattle.search.specs.Demanded.{Demanded}
 use Rattle.search.proofs.Allowed.{Allowed, allowed-accepted, accepted-allowed}
 
 every-mem : {A : Type 0} (P : A → Type 0) {x : A} {xs : List A} → List·Memᴰ x xs → Every P xs → P x

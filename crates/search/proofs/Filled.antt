@@ -6,8 +6,8 @@ use native.Mathlib.Nat.{zero-add}
 use native.Mathlib.Omega.{arith}
 use lib.ListN.{length, take, drop, set, length-append, length-take, length-drop}
 use Rattle.laws.proofs.Copy.{Copied, copied-more, copied-front}
-use Rattle.clock.specs.declared.Clock.{Clock}
-use Rattle.image.specs.Image.{imaged}
+use Rattle.time_clock.specs.declared.Clock.{Clock}
+use Rattle.segment_image.specs.Image.{decodeImage}
 use Rattle.search.specs.declared.EntryRecord.{EntryRecord}
 use Rattle.search.specs.declared.Entries.{Entries}
 use Rattle.search.specs.declared.Searched.{Searched}
@@ -33,7 +33,7 @@ pub searches-filled : (old : List ℕ) (k : Clock) (allowance : ℕ) (xs : List 
 unfolding searchedOf
 searches-filled old k allowance xs c new r i f e h =
     record {
-      gives = ap₂ (λ x j. searchedOf x (filled c xs j) (imaged new)) e h ∙ f .gives xs refl;
+      gives = ap₂ (λ x j. searchedOf x (filled c xs j) (decodeImage new)) e h ∙ f .gives xs refl;
       exact = f .exact;
       kept = λ z. f .kept (subst (λ (x : Searched). 0 < outcomeNumber (x .outcome)) e z);
     }

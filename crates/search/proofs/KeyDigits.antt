@@ -6,8 +6,8 @@ use native.Mathlib.Omega.{arith}
 use lib.ListN.{length}
 use Rattle.laws.specs.Words.{Every}
 use Rattle.laws.specs.Sweep.{fold}
-use Rattle.identity.specs.Identity.{inBase, digitsOf}
-use Rattle.identity.proofs.IdentityLaws.{nibbles-back}
+use Rattle.meter_identity.specs.Identity.{inBase, digitsOf}
+use Rattle.meter_identity.proofs.IdentityLaws.{nibbles-back}
 
 -- digits behind a number, base 16: what the code computes
 abbrev pub keyFrom : ℕ → List ℕ → ℕ

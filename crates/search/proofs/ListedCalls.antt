@@ -28,11 +28,11 @@ use denote.Struct.Laws as LL
 use denote.Triple.Statement.{Contract}
 use denote.Triple.Spec.{tripleOf}
 use denote.Triple.Clauses.{ensured, lasts}
-use Rattle.clock.specs.declared.Clock.{Clock}
-use Rattle.clock.proofs.Clock as K
-use Rattle.clock.proofs.Clock.Laws as K′
+use Rattle.time_clock.specs.declared.Clock.{Clock}
+use Rattle.time_clock.proofs.Clock as K
+use Rattle.time_clock.proofs.Clock.Laws as K′
 use Rattle.laws.proofs.least as least
-use Rattle.scenarios.specs.Opening.{mostMeters}
+use Rattle.list_open.specs.Opening.{mostMeters}
 use Rattle.search.specs.View.{SearchesInto}
 use Rattle.search.specs.ProgramSearch.{listedOf}
 use Rattle.search.specs.declared.EntryRecord.{EntryRecord}

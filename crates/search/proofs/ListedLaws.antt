@@ -9,13 +9,13 @@ use lib.ListN.{length, take, drop, length-append, length-drop, length-map}
 use lib.Seq.{length-take-le, take-append-le, take-append-seam}
 use borrow.Author.Tests.{lt-ltb, le-ltb, ltb-true, ltb-false}
 use Rattle.laws.specs.Words.{if_then_else_}
-use Rattle.clock.specs.declared.Clock.{Clock}
-use Rattle.clock.specs.Fields.{goodClock}
-use Rattle.scenarios.specs.Opening.{mostMeters}
-use Rattle.bus.specs.Plain.{Plain}
-use Rattle.image.specs.Image.{imaged}
+use Rattle.time_clock.specs.declared.Clock.{Clock}
+use Rattle.time_clock.specs.Fields.{goodClock}
+use Rattle.list_open.specs.Opening.{mostMeters}
+use Rattle.segment.specs.Plain.{Plain}
+use Rattle.segment_image.specs.Image.{decodeImage}
 use Rattle.segment_places.proofs.PlaceLaws.{meters-few}
-use Rattle.walk.specs.Walk.{Entry, Walked, wholeWalk}
+use Rattle.search_walk.specs.Walk.{Entry, Walked, wholeWalk}
 use Rattle.search.specs.declared.EntryRecord.{EntryRecord}
 use Rattle.search.specs.declared.Entries.{Entries}
 use Rattle.search.specs.declared.Searched as answers
@@ -70,7 +70,7 @@ same-test n room m e h = go (ltb room m) refl
 module _ (old : List ℕ) (k : Clock) (allowance room : ℕ) (es zs : List EntryRecord) (n : ℕ) (found : answers.Searched) (new : List ℕ) (le : n ≤ length es) (en : n ≡ min room mostMeters) (ez : length zs ≡ n)
     (f : SearchesInto old k allowance (take n es) found zs new) where
   abbrev s : Plain
-  s = imaged old
+  s = decodeImage old
 
   abbrev m : ℕ
   m = length (s .meters)
@@ -88,10 +88,10 @@ module _ (old : List ℕ) (k : Clock) (allowance room : ℕ) (es zs : List Entry
   in-front : take (found .count) (zs ++ drop n es) ≡ take (found .count) zs
   in-front = take-append-le (found .count) zs (drop n es) (omega (arith, small, ez))
 
-  gave : (lent : List EntryRecord) → length lent ≡ room → entriesGive (listedOf found (zs ++ drop n es)) (imaged new) lent ≡ searchCall k allowance lent s
+  gave : (lent : List EntryRecord) → length lent ≡ room → entriesGive (listedOf found (zs ++ drop n es)) (decodeImage new) lent ≡ searchCall k allowance lent s
   unfolding searchedOf
   gave lent l =
-      (λ j. record { number = outcomeNumber (found .outcome); count = found .count; probes = found .probes; spent = found .spent; lent = in-front j ++ drop (found .count) lent; segment = imaged new })
+      (λ j. record { number = outcomeNumber (found .outcome); count = found .count; probes = found .probes; spent = found .spent; lent = in-front j ++ drop (found .count) lent; segment = decodeImage new })
       ∙ ap (over lent) (f .gives)
       ∙ over-search k allowance (take n es) s lent (ap (λ (j : ℕ). ltb j m) many ∙ same-test n room m en (meters-few old) ∙ ap (λ (j : ℕ). ltb j m) (sym l))
 

@@ -9,27 +9,27 @@ use Rattle.laws.specs.Words.{Every}
 use Rattle.laws.proofs.Copy.{take-min}
 use Rattle.laws.proofs.Lists.{every-map}
 use Rattle.meter.specs.PlainMeter.{PlainMeter}
-use Rattle.clock.specs.declared.Clock.{Clock}
-use Rattle.scenarios.specs.Opening.{capacity}
-use Rattle.bus.specs.Plain.{Plain, withMeters}
-use Rattle.clock.specs.Fields.{goodClock}
-use Rattle.image.specs.Image.{imaged}
-use Rattle.segment_places.specs.Becomes.{Becomes}
+use Rattle.time_clock.specs.declared.Clock.{Clock}
+use Rattle.list_open.specs.Opening.{capacity}
+use Rattle.segment.specs.Plain.{Plain, withMeters}
+use Rattle.time_clock.specs.Fields.{goodClock}
+use Rattle.segment_image.specs.Image.{decodeImage}
+use Rattle.segment_places.specs.ProgramBecomes.{Becomes}
 use Rattle.segment_places.proofs.Becoming.{becomes-as}
 use Rattle.segment_places.proofs.PlaceLaws.{meters-few}
-use Rattle.send.proofs.SendLaws.{atRest}
-use Rattle.walk.specs.Walk.{Walked, wholeWalk}
-use Rattle.walk.proofs.Program.{held-all}
-use Rattle.walk.proofs.Fits.{Idle, walk-fits-meters}
-use Rattle.packed.specs.declared.Found.{Found}
-use Rattle.packed.specs.Packed.{RunR, wholeR, foundOf, Goes}
+use Rattle.segment_send.proofs.SendLaws.{atRest}
+use Rattle.search_walk.specs.Walk.{Walked, wholeWalk}
+use Rattle.search_walk.proofs.Program.{held-all}
+use Rattle.search_walk.proofs.Fits.{Idle, walk-fits-meters}
+use Rattle.search_packed.specs.declared.Found.{Found}
+use Rattle.search_packed.specs.ProgramPacked.{PackedRun, packedWhole, foundOf, Goes}
 use Rattle.search.specs.declared.EntryRecord.{EntryRecord}
-use Rattle.search.specs.declared.Outcome.the-variants.{Made}
+use Rattle.search.specs.declared.SearchOutcome.the-variants.{Made}
 use Rattle.search.specs.declared.Entries.{Entries}
 use Rattle.search.specs.SearchCall.{recordOf, searchGave}
-use Rattle.search.specs.Packing.{keyOf, markOf, packed, Bounded, unmarked, recordIn}
+use Rattle.search.specs.ProgramPacking.{keyOf, markOf, packed, Bounded, unmarked, recordIn}
 use Rattle.search.specs.View.{outcomeNumber, entriesGive}
-use Rattle.search.specs.ProgramSearch.{packedRun, Walks}
+use Rattle.search.specs.ProgramSearch.{packedWalkOf, Walks}
 use Rattle.search.proofs.KeyDigits.{digits-eight}
 use Rattle.search.proofs.PackStart.{packed-hold, packed-seen, swept-seen}
 use Rattle.search.proofs.PackedProbe.{seenAll}
@@ -38,36 +38,36 @@ use Rattle.search.proofs.PackedWalk.{whole-same}
 -- ---- what the walk over packed meters gives
 
 module _ (old new : List ℕ) (allowance : ℕ) (f : Found) (ks ss : List ℕ) (rs : List EntryRecord) (n : ℕ) where
-  pub walks : ks ≡ packed keyOf (imaged old .meters) → ss ≡ packed (markOf (imaged old .baud)) (imaged old .meters) → Every Bounded (imaged old .meters) → Goes ks ss allowance f
-      → Becomes old (unmarked (f .marks) (imaged old)) new
+  pub walks : ks ≡ packed keyOf (decodeImage old .meters) → ss ≡ packed (markOf (decodeImage old .baud)) (decodeImage old .meters) → Every Bounded (decodeImage old .meters) → Goes ks ss allowance f
+      → Becomes old (unmarked (f .marks) (decodeImage old)) new
       → take (min (f .found) capacity) rs ≡ map recordIn (take (min (f .found) capacity) (f .entries)) → n ≡ min (f .found) capacity
       → Walks old allowance (record { outcome = Made; entries = rs; count = n; probes = f .probes; spent = f .spent }) new
-  unfolding foundOf packedRun
+  unfolding foundOf packedWalkOf
   walks k m b g u r c =
-      let e : foundOf f ≡ packedRun (imaged old) allowance = g .run ∙ ap₂ (λ x y. wholeR x y allowance) k m in
+      let e : foundOf f ≡ packedWalkOf (decodeImage old) allowance = g .run ∙ ap₂ (λ x y. packedWhole x y allowance) k m in
       let all : take (min (f .found) capacity) (f .entries) ≡ take (f .found) (f .entries) = ap (λ l. take (min (f .found) l) (f .entries)) (sym (g .entries)) ∙ take-min (f .found) (f .entries) in
       record {
         outcome = refl;
-        entries = ap (λ j. take j rs) c ∙ r ∙ ap (map recordIn) (all ∙ ap (λ (t : RunR). t .entries) e);
-        count = c ∙ ap (λ l. min (f .found) l) (sym (g .entries)) ∙ sym (length-take (f .found) (f .entries)) ∙ ap (λ (t : RunR). length (t .entries)) e;
-        probes = ap (λ (t : RunR). t .probes) e;
-        spent = ap (λ (t : RunR). t .spent) e;
-        image = becomes-as (ap (λ (t : RunR). unmarked (t .marks) (imaged old)) e) u;
-        marks = ap (λ (t : RunR). length (t .marks)) (sym e) ∙ g .marks;
+        entries = ap (λ j. take j rs) c ∙ r ∙ ap (map recordIn) (all ∙ ap (λ (t : PackedRun). t .entries) e);
+        count = c ∙ ap (λ l. min (f .found) l) (sym (g .entries)) ∙ sym (length-take (f .found) (f .entries)) ∙ ap (λ (t : PackedRun). length (t .entries)) e;
+        probes = ap (λ (t : PackedRun). t .probes) e;
+        spent = ap (λ (t : PackedRun). t .spent) e;
+        image = becomes-as (ap (λ (t : PackedRun). unmarked (t .marks) (decodeImage old)) e) u;
+        marks = ap (λ (t : PackedRun). length (t .marks)) (sym e) ∙ g .marks;
         bounded = b;
       }
 
 -- ---- a search that was made
 
-module _ (old : List ℕ) (k : Clock) (allowance : ℕ) (r : Entries) (new : List ℕ) (gc : goodClock k ≡ true) (i : imaged old .input ≡ []) (q : imaged old .queue ≡ []) (x : Walks old allowance r new) where
+module _ (old : List ℕ) (k : Clock) (allowance : ℕ) (r : Entries) (new : List ℕ) (gc : goodClock k ≡ true) (i : decodeImage old .input ≡ []) (q : decodeImage old .queue ≡ []) (x : Walks old allowance r new) where
   abbrev s : Plain
-  s = imaged old
+  s = decodeImage old
 
   abbrev v : Walked
   v = wholeWalk k allowance s
 
-  abbrev t : RunR
-  t = packedRun s allowance
+  abbrev t : PackedRun
+  t = packedWalkOf s allowance
 
   few : length (s .meters) ≤ capacity
   unfolding capacity
@@ -87,7 +87,7 @@ module _ (old : List ℕ) (k : Clock) (allowance : ℕ) (r : Entries) (new : Lis
 
   same : (map recordIn (t .entries) ≡ take capacity (map recordOf (v .entries))) × (t .probes ≡ v .probes) × (t .spent ≡ v .spent)
       × (atRest (s .baud) (s .origin) (seenAll (s .baud) (s .meters) (t .marks)) ≡ v .segment)
-  unfolding packedRun
+  unfolding packedWalkOf
   same =
       subst (λ (p : Plain). let v = wholeWalk k allowance p in
       (map recordIn (t .entries) ≡ take capacity (map recordOf (v .entries))) × (t .probes ≡ v .probes) × (t .spent ≡ v .spent)
@@ -105,10 +105,10 @@ module _ (old : List ℕ) (k : Clock) (allowance : ℕ) (r : Entries) (new : Lis
   pub count-is : r .count ≡ length (v .entries)
   count-is = x .count ∙ sym (length-map (t .entries) recordIn) ∙ ap length entries-are ∙ length-map (v .entries) recordOf
 
-  segment-is : imaged new ≡ v .segment
+  segment-is : decodeImage new ≡ v .segment
   segment-is = x .image .means ∙ at-rest _ _ (swept-seen (s .baud) (t .marks) (s .meters) (omega (arith, few, x .marks))) ∙ same .3
 
-  pub made : (lent : List EntryRecord) → entriesGive r (imaged new) lent ≡ searchGave lent v
+  pub made : (lent : List EntryRecord) → entriesGive r (decodeImage new) lent ≡ searchGave lent v
   made lent = λ j. record {
     number = outcomeNumber (x .outcome j);
     count = count-is j;

@@ -9,11 +9,11 @@ use Rattle.laws.specs.Words.{if_then_else_, bitIf}
 use Rattle.meter.specs.PlainMeter.{PlainMeter}
 use Rattle.meter.specs.declared.Fault.{Fault}
 use Rattle.meter.specs.declared.Fault.the-variants.{None, Checksum, Truncated, Busy, WrongAddress, Flaky, TooMany}
-use Rattle.meter.specs.Meter.{withSelected, withHearsNext, reset, flaky, hears, put}
-use Rattle.matching.specs.Matching.{matches}
-use Rattle.hear.specs.Hear.{Heard, quiet, answers, E5, select}
-use Rattle.packed.specs.Marks.{yesOf, hearsOf, marked}
-use Rattle.search.specs.Packing.{on, stand, asMarked}
+use Rattle.meter.specs.Meter.{withSelected, withHearsNext, reset, flaky, hears, offered}
+use Rattle.meter_select.specs.Matching.{matches}
+use Rattle.meter_step.specs.Hear.{Heard, quiet, answers, E5, select}
+use Rattle.search_packed.specs.ProgramMarks.{yesOf, hearsOf, marked}
+use Rattle.search.specs.ProgramPacking.{on, stand, asMarked}
 use Rattle.search.proofs.BitLaws.{Bit, bit-of, bit-if, bit-on, bit-is, bit-small, bit-and, bit-or, turned, bit-xor, bit-not}
 
 -- ---- what a mask does to the bits of a mark
@@ -83,7 +83,7 @@ selectB b f n =
     else quiet (withSelected false n)
 
 select-is : (d : List ℕ) (n : PlainMeter) → select d n ≡ selectB (matches d n) (flaky (n .fault)) n
-unfolding select hears put
+unfolding select hears offered
 select-is d n = refl
 
 abbrev pub acknowledged : Bool → PlainMeter → Heard

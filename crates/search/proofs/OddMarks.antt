@@ -9,12 +9,12 @@ use lib.ListN.{length}
 use borrow.Author.Tests.{eqb-true, eqb-false}
 use Rattle.laws.proofs.Lists.{and-r}
 use Rattle.meter.specs.PlainMeter.{PlainMeter}
-use Rattle.walk.specs.Entries.{begins}
-use Rattle.walk.proofs.Model.{Prefix}
+use Rattle.search_walk.specs.Entries.{begins}
+use Rattle.search_walk.proofs.Model.{Prefix}
 use Rattle.laws.specs.Words.{bitIf, within}
-use Rattle.packed.specs.Marks.{marked, masked, acked, sweptBy, foldBy}
-use Rattle.packed.specs.Packed.{spanOf}
-use Rattle.search.specs.Packing.{on}
+use Rattle.search_packed.specs.ProgramMarks.{marked, masked, acked, sweptBy, foldBy}
+use Rattle.search_packed.specs.ProgramPacked.{spanOf}
+use Rattle.search.specs.ProgramPacking.{on}
 use Rattle.search.proofs.MarkLaws.{heard, marked-selected, marked-fresh, marked-clear}
 use Rattle.search.proofs.ReadMarks.{Fresh}
 use Rattle.search.proofs.Ranges.{lowOf, inside-begins}

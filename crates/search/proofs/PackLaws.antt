@@ -10,22 +10,22 @@ use lib.ListN.{length, take, drop, set, getD, replicate, List·getD-map, length-
 use lib.Seq.{take-all}
 use Rattle.laws.proofs.Lists.{map-take}
 use Rattle.laws.specs.Words.{Every, bitIf}
-use Rattle.identity.specs.Identity.{digitsOf}
+use Rattle.meter_identity.specs.Identity.{digitsOf}
 use Rattle.laws.proofs.Copy.{Copied, copied-none, copied-more, copied-first, copied-front}
 use Rattle.meter.specs.PlainMeter.{PlainMeter}
 use Rattle.meter.specs.Meter.{with}
 use Rattle.meter.specs.View.{plainMeter}
 use Rattle.meter.specs.declared.Meter.{Meter}
 use Rattle.meter.specs.declared.LastFcb.{LastFcb}
-use Rattle.scenarios.specs.Opening.{capacity}
-use Rattle.bus.specs.Plain.{Plain, withMeters}
-use Rattle.image.specs.Image.{imaged}
-use Rattle.segment_places.specs.Becomes.{meterIn, Becomes}
+use Rattle.list_open.specs.Opening.{capacity}
+use Rattle.segment.specs.Plain.{Plain, withMeters}
+use Rattle.segment_image.specs.Image.{decodeImage}
+use Rattle.segment_places.specs.ProgramBecomes.{meterIn, Becomes}
 use Rattle.segment_places.proofs.Becoming.{becomes-same, becomes-as, becomes-then}
 use Rattle.segment_places.proofs.PlaceLaws.{meter-at}
-use Rattle.packed.proofs.MarkSweep.{Sweep, sweep-none, sweep-more, sweep-all}
+use Rattle.search_packed.proofs.MarkSweep.{Sweep, sweep-none, sweep-more, sweep-all}
 use Rattle.search.specs.declared.Kind.the-variants.{Many}
-use Rattle.search.specs.Packing.{faultBits, markOf, Bounded, packed, on, lastIn, partIn, asMarked, seenAs, seenBy, unmarked, kindIn, countIn}
+use Rattle.search.specs.ProgramPacking.{faultBits, markOf, Bounded, packed, on, lastIn, partIn, asMarked, seenAs, seenBy, unmarked, kindIn, countIn}
 use Rattle.search.proofs.KeyDigits.{id-key}
 
 -- ---- a front number
@@ -71,27 +71,27 @@ module _ {A : Type 0} (P : A → Type 0) where
 -- ---- the meters of an image
 
 -- a meter that was read is the one that stands there
-read-there : (l : List ℕ) (i : ℕ) (m : Meter) → i < length (imaged l .meters) → plainMeter m ≡ meterIn i l → plainMeter m ≡ getD (imaged l .meters) i (plainMeter m)
+read-there : (l : List ℕ) (i : ℕ) (m : Meter) → i < length (decodeImage l .meters) → plainMeter m ≡ meterIn i l → plainMeter m ≡ getD (decodeImage l .meters) i (plainMeter m)
 read-there l i m h e = e ∙ sym (meter-at l i (plainMeter m) h)
 
 module _ (l : List ℕ) where
-  module _ {i : ℕ} {f : PlainMeter → ℕ} {d ks : List ℕ} (c : Mapped f d (imaged l .meters) i ks) where
-    pub packed-more : {v : ℕ} (m : Meter) → i < length d → i < length (imaged l .meters) → plainMeter m ≡ meterIn i l → v ≡ f (plainMeter m) → Mapped f d (imaged l .meters) (i + 1) (set ks i v)
+  module _ {i : ℕ} {f : PlainMeter → ℕ} {d ks : List ℕ} (c : Mapped f d (decodeImage l .meters) i ks) where
+    pub packed-more : {v : ℕ} (m : Meter) → i < length d → i < length (decodeImage l .meters) → plainMeter m ≡ meterIn i l → v ≡ f (plainMeter m) → Mapped f d (decodeImage l .meters) (i + 1) (set ks i v)
     packed-more m h n e g = mapped-more c (plainMeter m) h n (g ∙ ap f (read-there l i m n e))
 
-    pub packed-all : i ≡ length (imaged l .meters) → d ≡ replicate capacity 0 → ks ≡ packed f (imaged l .meters)
+    pub packed-all : i ≡ length (decodeImage l .meters) → d ≡ replicate capacity 0 → ks ≡ packed f (decodeImage l .meters)
     unfolding packed
     packed-all e z =
-        let xs = imaged l .meters in
+        let xs = decodeImage l .meters in
         copied-front (c .copied) ∙ ap (λ (j : ℕ). take j (map f xs) ++ drop j d) e
         ∙ ap₂ (λ x y. x ++ drop (length xs) y) (take-all (length xs) (map f xs) (omega (arith, length-map xs f))) z
 
-  module _ (P : PlainMeter → Type 0) (i : ℕ) (q : Every P (take i (imaged l .meters))) where
-    pub read-more : (m : Meter) → i < length (imaged l .meters) → plainMeter m ≡ meterIn i l → P (plainMeter m) → Every P (take (i + 1) (imaged l .meters))
-    read-more m h e p = every-more P (imaged l .meters) i (plainMeter m) h q (subst P (read-there l i m h e) p)
+  module _ (P : PlainMeter → Type 0) (i : ℕ) (q : Every P (take i (decodeImage l .meters))) where
+    pub read-more : (m : Meter) → i < length (decodeImage l .meters) → plainMeter m ≡ meterIn i l → P (plainMeter m) → Every P (take (i + 1) (decodeImage l .meters))
+    read-more m h e p = every-more P (decodeImage l .meters) i (plainMeter m) h q (subst P (read-there l i m h e) p)
 
-    pub read-all : i ≡ length (imaged l .meters) → Every P (imaged l .meters)
-    read-all e = subst (Every P) (take-all i (imaged l .meters) (omega arith)) q
+    pub read-all : i ≡ length (decodeImage l .meters) → Every P (decodeImage l .meters)
+    read-all e = subst (Every P) (take-all i (decodeImage l .meters) (omega arith)) q
 
 -- what the program's types say
 pub meter-bounded : (m : Meter) → m .id < 0x100000000 → m .access < 256 → m .readouts < 256 → Bounded (plainMeter m)
@@ -101,29 +101,29 @@ meter-bounded m h a r =
 
 -- the first i meters are as their marks have them, and all else is as it was
 pub record Unmarked (marks old : List ℕ) (i : ℕ) (new : List ℕ) : Type 0 where
-  pub sweep : Sweep (seenBy (imaged old .baud)) (λ a s m. a) 0 marks (imaged old .meters) i (imaged new .meters) 0
-  pub becomes : Becomes old (withMeters (imaged new .meters) (imaged old)) new
+  pub sweep : Sweep (seenBy (decodeImage old .baud)) (λ a s m. a) 0 marks (decodeImage old .meters) i (decodeImage new .meters) 0
+  pub becomes : Becomes old (withMeters (decodeImage new .meters) (decodeImage old)) new
 
 module _ {marks old : List ℕ} where
   pub unmarked-none : Unmarked marks old 0 old
   unmarked-none = record { sweep = sweep-none; becomes = becomes-same }
 
   module _ {i : ℕ} {new : List ℕ} (u : Unmarked marks old i new) where
-    pub unmarked-more : {next : List ℕ} (m k : Meter) → i < length marks → i < length (imaged old .meters) → plainMeter m ≡ meterIn i new
-        → plainMeter k ≡ seenAs (imaged old .baud) (plainMeter m) (getD marks i 0)
-        → Becomes new (withMeters (set (imaged new .meters) i (plainMeter k)) (imaged new)) next
+    pub unmarked-more : {next : List ℕ} (m k : Meter) → i < length marks → i < length (decodeImage old .meters) → plainMeter m ≡ meterIn i new
+        → plainMeter k ≡ seenAs (decodeImage old .baud) (plainMeter m) (getD marks i 0)
+        → Becomes new (withMeters (set (decodeImage new .meters) i (plainMeter k)) (decodeImage new)) next
         → Unmarked marks old (i + 1) next
     unmarked-more {next} m k h l e f b =
-        let n : i < length (imaged new .meters) = omega (arith, sweep-all i (u .sweep) refl .2) in
-        let after : imaged next .meters ≡ set (imaged new .meters) i (plainMeter k) = ap (λ (s : Plain). s .meters) (b .means) in
+        let n : i < length (decodeImage new .meters) = omega (arith, sweep-all i (u .sweep) refl .2) in
+        let after : decodeImage next .meters ≡ set (decodeImage new .meters) i (plainMeter k) = ap (λ (s : Plain). s .meters) (b .means) in
         record {
-          sweep = subst (λ ms. Sweep (seenBy (imaged old .baud)) (λ a s m. a) 0 marks (imaged old .meters) (i + 1) ms 0) (sym after)
-              (sweep-more 0 (plainMeter m) (u .sweep) h l (f ∙ ap (λ x. seenAs (imaged old .baud) x (getD marks i 0)) (read-there new i m n e)) refl);
+          sweep = subst (λ ms. Sweep (seenBy (decodeImage old .baud)) (λ a s m. a) 0 marks (decodeImage old .meters) (i + 1) ms 0) (sym after)
+              (sweep-more 0 (plainMeter m) (u .sweep) h l (f ∙ ap (λ x. seenAs (decodeImage old .baud) x (getD marks i 0)) (read-there new i m n e)) refl);
           becomes = becomes-then (u .becomes) (becomes-as (ap₂ withMeters (sym after) (u .becomes .means)) b);
         }
 
-    pub unmarked-all : i ≡ length (imaged old .meters) → Becomes old (unmarked marks (imaged old)) new
-    unmarked-all e = becomes-as (ap (λ ms. withMeters ms (imaged old)) (sweep-all (length (imaged old .meters)) (u .sweep) e .0)) (u .becomes)
+    pub unmarked-all : i ≡ length (decodeImage old .meters) → Becomes old (unmarked marks (decodeImage old)) new
+    unmarked-all e = becomes-as (ap (λ ms. withMeters ms (decodeImage old)) (sweep-all (length (decodeImage old .meters)) (u .sweep) e .0)) (u .becomes)
 
 -- ---- the mark with which a search begins
 

@@ -10,9 +10,9 @@ use Rattle.laws.specs.Words.{if_then_else_, Every, bitIf}
 use Rattle.meter.specs.PlainMeter.{PlainMeter}
 use Rattle.meter.specs.declared.Fault.{Fault}
 use Rattle.meter.specs.declared.Fault.the-variants.{None, Checksum, Truncated, Busy, WrongAddress, Flaky, TooMany}
-use Rattle.scenarios.specs.Opening.{capacity}
-use Rattle.packed.specs.Marks.{sweptBy}
-use Rattle.search.specs.Packing.{faultBits, keyOf, markOf, packed, Bounded, on, stand, asMarked, seenAs, seenBy}
+use Rattle.list_open.specs.Opening.{capacity}
+use Rattle.search_packed.specs.ProgramMarks.{sweptBy}
+use Rattle.search.specs.ProgramPacking.{faultBits, keyOf, markOf, packed, Bounded, on, stand, asMarked, seenAs, seenBy}
 use Rattle.search.proofs.BitLaws.{bit-if, bit-on, bit-small}
 use Rattle.search.proofs.MarkLaws.{in-nibble, Bits, bits-kept, Silent, silent-zero}
 use Rattle.search.proofs.PackedProbe.{Holds, AllHold, seenAll}

@@ -4,13 +4,13 @@ use mathlib.Core.List.{List}
 use Prim.Native.Nat.{ℕ, zero, suc, _+_, _*_, _/_, _%_, _≤_, _<_}
 use native.Mathlib.Omega.{arith}
 use lib.ListN.{length}
-use Rattle.identity.specs.Identity.{digitsOf}
-use Rattle.walk.specs.Walk.{one, mute, many}
-use Rattle.walk.proofs.Model.{Prefix}
-use Rattle.packed.specs.Packed.{spanOf}
+use Rattle.meter_identity.specs.Identity.{digitsOf}
+use Rattle.search_walk.specs.Walk.{one, mute, many}
+use Rattle.search_walk.proofs.Model.{Prefix}
+use Rattle.search_packed.specs.ProgramPacked.{spanOf}
 use Rattle.search.specs.declared.EntryRecord.{EntryRecord}
 use Rattle.search.specs.SearchCall.{recordOf}
-use Rattle.search.specs.Packing.{kindIn, countIn, recordIn}
+use Rattle.search.specs.ProgramPacking.{kindIn, countIn, recordIn}
 use Rattle.search.proofs.Ranges.{lowOf, mask-digits, whole-digits}
 
 -- n in front of an id

@@ -9,24 +9,24 @@ use lib.Dec.{eqb}
 use lib.Ieee.{Float}
 use lib.ListN.{length}
 use Rattle.laws.specs.Words.{if_then_else_, keep, Every, bitIf, within}
-use Rattle.identity.specs.Identity.{digitsOf}
+use Rattle.meter_identity.specs.Identity.{digitsOf}
 use Rattle.meter.specs.PlainMeter.{PlainMeter}
-use Rattle.clock.specs.declared.Clock.{Clock}
+use Rattle.time_clock.specs.declared.Clock.{Clock}
 use Rattle.meter.specs.Meter.{hears, flaky}
-use Rattle.matching.specs.Matching.{matches}
-use Rattle.hear.specs.Hear.{Heard, quiet, select, hear}
-use Rattle.hear.proofs.HearLaws.{hear-select}
-use Rattle.scenarios.specs.Opening.{capacity}
-use Rattle.clock.specs.Fields.{goodClock}
-use Rattle.send.proofs.SendLaws.{atRest}
-use Rattle.walk.specs.Walk.{mask, probe}
-use Rattle.walk.specs.Entries.{begins}
-use Rattle.walk.proofs.Model.{Prefix}
-use Rattle.walk.proofs.MaskLaws.{maskData, mask-is, mask-matches}
-use Rattle.walk.proofs.ProbeLaws.{secs, called, probedM, probe-rest}
-use Rattle.packed.specs.Marks.{marked, masked, acked, sweptBy, foldBy}
-use Rattle.packed.specs.Packed.{spanOf}
-use Rattle.search.specs.Packing.{on, asMarked, seenAs}
+use Rattle.meter_select.specs.Matching.{matches}
+use Rattle.meter_step.specs.Hear.{Heard, quiet, select, hear}
+use Rattle.meter_step.proofs.HearLaws.{hear-select}
+use Rattle.list_open.specs.Opening.{capacity}
+use Rattle.time_clock.specs.Fields.{goodClock}
+use Rattle.segment_send.proofs.SendLaws.{atRest}
+use Rattle.search_walk.specs.Walk.{mask, probe}
+use Rattle.search_walk.specs.Entries.{begins}
+use Rattle.search_walk.proofs.Model.{Prefix}
+use Rattle.search_walk.proofs.MaskLaws.{maskData, mask-is, mask-matches}
+use Rattle.search_walk.proofs.ProbeLaws.{secs, called, probedM, probe-rest}
+use Rattle.search_packed.specs.ProgramMarks.{marked, masked, acked, sweptBy, foldBy}
+use Rattle.search_packed.specs.ProgramPacked.{spanOf}
+use Rattle.search.specs.ProgramPacking.{on, asMarked, seenAs}
 use Rattle.search.proofs.MarkLaws.{marked-odd, marked-kind, Bits, bits-kept, Silent, silent-marked, select-marked, acknowledged-meter}
 use Rattle.search.proofs.KeyDigits.{digits-eight}
 use Rattle.search.proofs.Ranges.{lowOf, inside-begins}

@@ -10,35 +10,35 @@ use lib.ListN.{length}
 use borrow.Author.Tests.{eqb-true}
 use Rattle.laws.specs.Words.{if_then_else_, keep, Every, bitIf}
 use Rattle.meter.specs.PlainMeter.{PlainMeter}
-use Rattle.clock.specs.declared.Clock.{Clock}
-use Rattle.meter.specs.Meter.{hears, put}
-use Rattle.asking.specs.Asking.{asked}
-use Rattle.hear.specs.Hear.{Heard, quiet, request}
-use Rattle.readout.specs.Response.{readout}
-use Rattle.hear.proofs.HearLaws.{hear-reading}
-use Rattle.scenarios.specs.Opening.{capacity}
-use Rattle.bus.specs.Plain.{Plain}
-use Rattle.replies.specs.Replies.{joined}
-use Rattle.clock.specs.Fields.{goodClock}
-use Rattle.send.proofs.SendLaws.{atRest}
-use Rattle.walk.specs.Walk.{Entry, one, mute, reading, read, entryOf}
-use Rattle.walk.specs.Entries.{begins, failsBy}
-use Rattle.walk.proofs.Model.{Prefix}
-use Rattle.walk.proofs.ProbeLaws.{secs, asks, readM, read-rest}
-use Rattle.walk.proofs.ReadingLaws.{Nibbles, readout-nibbles}
-use Rattle.packed.specs.Marks.{yesOf, readable, readMark, readKey, readBy, sweptBy, foldBy}
-use Rattle.packed.specs.Packed.{spanOf}
+use Rattle.time_clock.specs.declared.Clock.{Clock}
+use Rattle.meter.specs.Meter.{hears, offered}
+use Rattle.meter_request.specs.Asking.{asked}
+use Rattle.meter_step.specs.Hear.{Heard, quiet, request}
+use Rattle.meter_reply.specs.Response.{readout}
+use Rattle.meter_step.proofs.HearLaws.{hear-reading}
+use Rattle.list_open.specs.Opening.{capacity}
+use Rattle.segment.specs.Plain.{Plain}
+use Rattle.segment_replies.specs.Replies.{joined}
+use Rattle.time_clock.specs.Fields.{goodClock}
+use Rattle.segment_send.proofs.SendLaws.{atRest}
+use Rattle.search_walk.specs.Walk.{Entry, one, mute, reading, read, entryOf}
+use Rattle.search_walk.specs.Entries.{begins, failsBy}
+use Rattle.search_walk.proofs.Model.{Prefix}
+use Rattle.search_walk.proofs.ProbeLaws.{secs, asks, readM, read-rest}
+use Rattle.search_walk.proofs.ReadingLaws.{Nibbles, readout-nibbles}
+use Rattle.search_packed.specs.ProgramMarks.{yesOf, readable, readMark, readKey, readBy, sweptBy, foldBy}
+use Rattle.search_packed.specs.ProgramPacked.{spanOf}
 use Rattle.search.specs.SearchCall.{recordOf}
-use Rattle.search.specs.Packing.{on, asMarked, seenAs, recordIn}
+use Rattle.search.specs.ProgramPacking.{on, asMarked, seenAs, recordIn}
 use Rattle.search.proofs.BitLaws.{bit-on}
 use Rattle.search.proofs.MarkLaws.{yes-bit, Silent}
-use Rattle.search.proofs.ReadMarks.{put-is, bits-read, silent-read, even-read, yes-is, request-marked}
+use Rattle.search.proofs.ReadMarks.{offered-is, bits-read, silent-read, even-read, yes-is, request-marked}
 use Rattle.search.proofs.KeyDigits.{digits-eight, digits-nibbles}
 use Rattle.search.proofs.Ranges.{lowOf}
 use Rattle.search.proofs.PackedEntries.{record-one, record-mute}
 use Rattle.search.proofs.PackedProbe.{Holds, AllHold, seenAll, Keeping, standing-hears, seen-length}
 use Rattle.search.proofs.OddMarks.{Selected, IfOdd, AllIfOdd, odds}
-use Rattle.search.proofs.Replies.{readable-is, put-parts, entry-none}
+use Rattle.search.proofs.Replies.{readable-is, offered-parts, entry-none}
 
 pub read-keeps : Keeping readBy
 unfolding readBy
@@ -58,7 +58,7 @@ module _ (k : Clock) (bus : ℕ) (o : Float) (p : List ℕ) (u : ℕ) (w : Prefi
   high = lowOf p u + spanOf u
 
   abbrev replied : PlainMeter → List ℕ
-  replied n = readout (secs k bus o) k (asked false (put n))
+  replied n = readout (secs k bus o) k (asked false (offered n))
 
   -- ---- one meter
 
@@ -107,8 +107,8 @@ module _ (k : Clock) (bus : ℕ) (o : Float) (p : List ℕ) (u : ℕ) (w : Prefi
       reply-is : entryOf p (replied (asMarked m s)) ≡ (if failsBy (m .fault) (s / 256 % 256) then mute p else one (m .digits))
       unfolding asMarked
       reply-is =
-          let x = put-parts (asMarked m s) in
-          readout-nibbles p w (secs k bus o) k (put (asMarked m s)) (subst Nibbles (sym (x .0 ∙ h .digits)) (digits-eight key, digits-nibbles key)) (ap (begins p) (x .0) ∙ q .has)
+          let x = offered-parts (asMarked m s) in
+          readout-nibbles p w (secs k bus o) k (offered (asMarked m s)) (subst Nibbles (sym (x .0 ∙ h .digits)) (digits-eight key, digits-nibbles key)) (ap (begins p) (x .0) ∙ q .has)
           ∙ (λ i. if failsBy (x .1 i) (x .2 i) then mute p else one (x .0 i))
 
       fails-record : (f : Bool) → recordOf (if f then mute p else one (m .digits)) ≡ recordIn (if not f then 0x100000000 + key else high)
@@ -143,7 +143,7 @@ module _ (k : Clock) (bus : ℕ) (o : Float) (p : List ℕ) (u : ℕ) (w : Prefi
   unfolding readKey
   even-unread a key s c =
       ap (λ x. if x && readable s then 0x100000000 + key else a)
-      (ap (λ x. on (yesOf s x)) (put-is s) ∙ bit-on (yes-bit s (on (s % 2))) ∙ ap (λ x. (on (s / 16 % 2) || on (s / 4 % 2)) && x) c ∙ and-false (on (s / 16 % 2) || on (s / 4 % 2)))
+      (ap (λ x. on (yesOf s x)) (offered-is s) ∙ bit-on (yes-bit s (on (s % 2))) ∙ ap (λ x. (on (s / 16 % 2) || on (s / 4 % 2)) && x) c ∙ and-false (on (s / 16 % 2) || on (s / 4 % 2)))
 
   none-unread : (n a : ℕ) (ks ss : List ℕ) → Every Silent ss → foldBy readKey a n ks ss ≡ a
   none-unread zero a ks ss q = refl
@@ -158,7 +158,7 @@ module _ (k : Clock) (bus : ℕ) (o : Float) (p : List ℕ) (u : ℕ) (w : Prefi
   none-odds zero ks ss q = refl
   none-odds (suc n) [] ss q = refl
   none-odds (suc n) (key ∷ ks) [] q = refl
-  none-odds (suc n) (key ∷ ks) (s ∷ ss) q = omega (arith, put-is s ∙ ap bitIf (q .0 .even), none-odds n ks ss (q .1))
+  none-odds (suc n) (key ∷ ks) (s ∷ ss) q = omega (arith, offered-is s ∙ ap bitIf (q .0 .even), none-odds n ks ss (q .1))
 
   -- where no mark is odd, nobody replies
   all-quiet : (n : ℕ) (ms : List PlainMeter) (ks ss : List ℕ) → length ms ≤ n → AllHold bus ms ks ss → odds n ks ss ≡ 0
@@ -198,7 +198,7 @@ module _ (k : Clock) (bus : ℕ) (o : Float) (p : List ℕ) (u : ℕ) (w : Prefi
           ∙ odd-entry m key s (q .0) (f .0 c)
           ∙ ap recordIn (sym (r .1 (readKey high key s)))
       go false c ih =
-          let x : s % 2 ≡ 0 = put-is s ∙ ap bitIf c in
+          let x : s % 2 ≡ 0 = offered-is s ∙ ap bitIf c in
           ap (λ b. recordOf (entryOf p (joined (map replied (if b then seenAs bus m s ∷ rest else rest))))) (even-quiet m key s (q .0) c)
           ∙ ih (omega arith)
           ∙ ap (λ v. recordIn (foldBy readKey v n ks ss)) (sym (even-unread high key s c))

@@ -8,12 +8,12 @@ use lib.Dec.{eqb, leb}
 use borrow.Author.Tests.{le-leb, lt-leb, eqb-true, eqb-false, leb-true, leb-false}
 use lib.ListN.{length, replicate, length-append, length-replicate}
 use Rattle.laws.specs.Words.{within}
-use Rattle.identity.specs.Identity.{digitsOf}
-use Rattle.walk.specs.Walk.{maskDigits}
-use Rattle.walk.proofs.Model.{Prefix}
-use Rattle.walk.proofs.MaskLaws.{digits-small}
-use Rattle.walk.specs.Entries.{begins}
-use Rattle.packed.specs.Packed.{spanOf}
+use Rattle.meter_identity.specs.Identity.{digitsOf}
+use Rattle.search_walk.specs.Walk.{maskDigits}
+use Rattle.search_walk.proofs.Model.{Prefix}
+use Rattle.search_walk.proofs.MaskLaws.{digits-small}
+use Rattle.search_walk.specs.Entries.{begins}
+use Rattle.search_packed.specs.ProgramPacked.{spanOf}
 use Rattle.search.proofs.KeyDigits.{keyFrom, Nibbles, key-digits, digits-eight, digits-nibbles, digits-key, key-small}
 
 abbrev pub zeros : ℕ → List ℕ

@@ -8,14 +8,14 @@ use lib.Ieee.{Float}
 use borrow.Author.Tests.{ltb-true, ltb-false}
 use Rattle.laws.specs.Words.{if_then_else_, bitIf}
 use Rattle.meter.specs.PlainMeter.{PlainMeter}
-use Rattle.clock.specs.declared.Clock.{Clock}
+use Rattle.time_clock.specs.declared.Clock.{Clock}
 use Rattle.meter.specs.declared.Fault.{Fault}
 use Rattle.meter.specs.declared.Fault.the-variants.{None, Checksum, Truncated, Busy, WrongAddress, Flaky, TooMany}
-use Rattle.meter.specs.Meter.{flaky, hears, put}
-use Rattle.asking.specs.Asking.{asked, readoutsNow}
-use Rattle.hear.specs.Hear.{Heard, answers, request}
-use Rattle.packed.specs.Marks.{yesOf, hearsOf, readoutsIn, readMark}
-use Rattle.search.specs.Packing.{on, stand, asMarked}
+use Rattle.meter.specs.Meter.{flaky, hears, offered}
+use Rattle.meter_request.specs.Asking.{asked, readoutsNow}
+use Rattle.meter_step.specs.Hear.{Heard, answers, request}
+use Rattle.search_packed.specs.ProgramMarks.{yesOf, hearsOf, readoutsIn, readMark}
+use Rattle.search.specs.ProgramPacking.{on, stand, asMarked}
 use Rattle.search.proofs.BitLaws.{turned, bit-on, bit-is, bit-small, bit-of}
 use Rattle.search.proofs.MarkLaws.{tooMany, Bits, bits-kept, Silent, putB, yes-bit, hears-bit}
 
@@ -51,7 +51,7 @@ abbrev requestB : Bool → PlainMeter → PlainMeter
 requestB f n = if (if f then n .hearsNext else true) then asked false (putB f n) else putB f n
 
 request-is : (e : Float) (k : Clock) (n : PlainMeter) → (request false e k n) .meter ≡ requestB (flaky (n .fault)) n
-unfolding request hears put
+unfolding request hears offered
 request-is e k n = if-meter (if flaky (n .fault) then n .hearsNext else true) _ _
 
 module _ (m : PlainMeter) where
@@ -136,16 +136,16 @@ unfolding readMark
 missed-mark s e = rw e
 
 -- the bit to which a reading is put
-pub put-is : (s : ℕ) → s % 2 ≡ bitIf (on (s % 2))
-put-is s = bit-is (bit-of (s % 2) (omega arith))
+pub offered-is : (s : ℕ) → s % 2 ≡ bitIf (on (s % 2))
+offered-is s = bit-is (bit-of (s % 2) (omega arith))
 
 module _ (s : ℕ) where
   hears-small : hearsOf s (s % 2) ≤ 1
-  hears-small = rw (put-is s) (bit-small (hears-bit s (on (s % 2))))
+  hears-small = rw (offered-is s) (bit-small (hears-bit s (on (s % 2))))
 
   -- what it was before is kept, all but hearing, access number and readouts
   pub read-kept : (readMark s % 2 ≡ s % 2) × (readMark s / 16 % 16 ≡ s / 16 % 16) × (readMark s / 4 % 2 ≡ hearsOf s (s % 2))
-  read-kept = go (yesOf s (s % 2)) (rw (put-is s) (bit-small (yes-bit s (on (s % 2))))) refl
+  read-kept = go (yesOf s (s % 2)) (rw (offered-is s) (bit-small (yes-bit s (on (s % 2))))) refl
     where
       go : (y : ℕ) → y ≤ 1 → yesOf s (s % 2) ≡ y → (readMark s % 2 ≡ s % 2) × (readMark s / 16 % 16 ≡ s / 16 % 16) × (readMark s / 4 % 2 ≡ hearsOf s (s % 2))
       go zero h e = let p = missed-parts s (hearsOf s (s % 2)) (readMark s) hears-small (missed-mark s e) in (p .selected, p .kind, p .hears)
@@ -162,7 +162,7 @@ silent-read s q =
     let b : readMark s / 32 % 2 ≡ s / 32 % 2 = half (readMark s) s (e .1) in
     record {
       even = ap on (e .0) ∙ q .even;
-      misses = ap on (e .2 ∙ ap (hearsOf s) (put-is s)) ∙ bit-on (hears-bit s (on (s % 2))) ∙ ap₂ (λ x y. turned x (y && on (s % 2))) (q .misses) (q .flaky′);
+      misses = ap on (e .2 ∙ ap (hearsOf s) (offered-is s)) ∙ bit-on (hears-bit s (on (s % 2))) ∙ ap₂ (λ x y. turned x (y && on (s % 2))) (q .misses) (q .flaky′);
       steady = ap on a ∙ q .steady;
       flaky′ = ap on b ∙ q .flaky′;
     }
@@ -185,12 +185,12 @@ silent-read s q =
 -- a meter that is not selected is left alone
 pub even-read : (s : ℕ) → on (s % 2) ≡ false → readMark s ≡ s
 even-read s e =
-    missed-mark s (ap (yesOf s) put ∙ bit-is (yes-bit s false) ∙ ap bitIf (and-false (on (s / 16 % 2) || on (s / 4 % 2))))
-    ∙ ap (λ h. s / 8 * 8 + h * 4 + s % 4) (ap (hearsOf s) put ∙ bit-is (hears-bit s false) ∙ ap (λ b. bitIf (turned (on (s / 4 % 2)) b)) (and-false (on (s / 32 % 2))) ∙ sym (bit-is (bit-of (s / 4 % 2) (omega arith))))
+    missed-mark s (ap (yesOf s) offered ∙ bit-is (yes-bit s false) ∙ ap bitIf (and-false (on (s / 16 % 2) || on (s / 4 % 2))))
+    ∙ ap (λ h. s / 8 * 8 + h * 4 + s % 4) (ap (hearsOf s) offered ∙ bit-is (hears-bit s false) ∙ ap (λ b. bitIf (turned (on (s / 4 % 2)) b)) (and-false (on (s / 32 % 2))) ∙ sym (bit-is (bit-of (s / 4 % 2) (omega arith))))
     ∙ omega arith
   where
-    put : s % 2 ≡ 0
-    put = put-is s ∙ ap bitIf e
+    offered : s % 2 ≡ 0
+    offered = offered-is s ∙ ap bitIf e
 
 -- ---- the request of the meter that a mark stands for
 module _ (m : PlainMeter) (s : ℕ) (q : Fresh m s) where

@@ -11,11 +11,11 @@ use Rattle.frame.specs.Frame.{parse}
 use Rattle.meter.specs.PlainMeter.{PlainMeter}
 use Rattle.meter.specs.declared.Fault.{Fault}
 use Rattle.meter.specs.declared.Fault.the-variants.{None, Checksum, Truncated, Busy, WrongAddress, Flaky, TooMany}
-use Rattle.meter.specs.Meter.{withHearsNext, flaky, put}
-use Rattle.walk.specs.Walk.{mute, entryOf}
-use Rattle.walk.specs.Entries.{failsBy}
-use Rattle.packed.specs.Marks.{readable}
-use Rattle.search.specs.Packing.{on}
+use Rattle.meter.specs.Meter.{withHearsNext, flaky, offered}
+use Rattle.search_walk.specs.Walk.{mute, entryOf}
+use Rattle.search_walk.specs.Entries.{failsBy}
+use Rattle.search_packed.specs.ProgramMarks.{readable}
+use Rattle.search.specs.ProgramPacking.{on}
 use Rattle.search.proofs.MarkLaws.{neverRead, tooMany, Bits}
 
 not-on : (x : ℕ) → x ≤ 1 → eqb x 0 ≡ not (on x)
@@ -42,9 +42,9 @@ readable-is f s k =
         go true e = le-ltb (s / 256 % 256) 2 (leb-true 2 (s / 256 % 256) e)
         go false e = lt-ltb (s / 256 % 256) 2 (omega (arith, leb-false 2 (s / 256 % 256) e))
 
-pub put-parts : (n : PlainMeter) → ((put n) .digits ≡ n .digits) × ((put n) .fault ≡ n .fault) × ((put n) .readouts ≡ n .readouts)
-unfolding put
-put-parts n = go (flaky (n .fault))
+pub offered-parts : (n : PlainMeter) → ((offered n) .digits ≡ n .digits) × ((offered n) .fault ≡ n .fault) × ((offered n) .readouts ≡ n .readouts)
+unfolding offered
+offered-parts n = go (flaky (n .fault))
   where
     go : (b : Bool) → let q = (if b then withHearsNext (not (n .hearsNext)) n else n) in (q .digits ≡ n .digits) × (q .fault ≡ n .fault) × (q .readouts ≡ n .readouts)
     go true = (refl, refl, refl)

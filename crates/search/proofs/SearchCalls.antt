@@ -27,10 +27,10 @@ use denote.Triple.Statement.{Contract}
 use denote.Triple.Spec.{tripleOf}
 use denote.Triple.Clauses.{ensured, lasts}
 use denote.Triple.Walked.{says}
-use Rattle.clock.specs.declared.Clock.{Clock}
-use Rattle.clock.proofs.Clock as K
-use Rattle.clock.proofs.Clock.Laws as K′
-use Rattle.scenarios.specs.Opening.{mostMeters, capacity}
+use Rattle.time_clock.specs.declared.Clock.{Clock}
+use Rattle.time_clock.proofs.Clock as K
+use Rattle.time_clock.proofs.Clock.Laws as K′
+use Rattle.list_open.specs.Opening.{mostMeters, capacity}
 use Rattle.search.specs.View.{SearchesIn}
 use Rattle.search.specs.ProgramSearch.{answerOf, recordAt}
 use Rattle.search.specs.declared.EntryRecord.{EntryRecord}

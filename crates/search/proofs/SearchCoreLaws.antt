@@ -8,14 +8,14 @@ use lib.Dec.{eqb}
 use borrow.Author.Tests.{eq-eqb, ne-eqb, lt-ltb, le-ltb, eqb-true, not-true, not-false}
 use lib.ListN.{length, take, drop}
 use Rattle.laws.proofs.Lists.{and-l, and-r}
-use Rattle.clock.specs.declared.Clock.{Clock}
-use Rattle.bus.specs.Plain.{Plain}
-use Rattle.clock.specs.Fields.{goodClock}
-use Rattle.image.specs.Image.{imaged, imageOf}
+use Rattle.time_clock.specs.declared.Clock.{Clock}
+use Rattle.segment.specs.Plain.{Plain}
+use Rattle.time_clock.specs.Fields.{goodClock}
+use Rattle.segment_image.specs.Image.{decodeImage, encodeImage}
 use Rattle.segment_places.proofs.PlaceLaws.{meters-few}
 use Rattle.search.specs.declared.EntryRecord.{EntryRecord}
-use Rattle.search.specs.declared.Outcome.{Outcome}
-use Rattle.search.specs.declared.Outcome.the-variants.{ClockOutOfRange, NotEmpty, TooFewLent}
+use Rattle.search.specs.declared.SearchOutcome.{SearchOutcome}
+use Rattle.search.specs.declared.SearchOutcome.the-variants.{ClockOutOfRange, NotEmpty, TooFewLent}
 use Rattle.search.specs.declared.Entries.{Entries}
 use Rattle.search.specs.SearchCall.{searchRefused, searchCall, isEmpty}
 use Rattle.search.specs.View.{outcomeNumber, entriesGive, SearchesIn}
@@ -37,7 +37,7 @@ none-there (x ∷ xs) h = absurd (let z = eqb-true (suc (length xs)) 0 h in omeg
 
 -- ---- the search call
 
-gives-refused : (s : Plain) (o : Outcome) (r : Entries) → Refuses o r → (lent : List EntryRecord) → entriesGive r s lent ≡ searchRefused (outcomeNumber o) lent s
+gives-refused : (s : Plain) (o : SearchOutcome) (r : Entries) → Refuses o r → (lent : List EntryRecord) → entriesGive r s lent ≡ searchRefused (outcomeNumber o) lent s
 gives-refused s o r x lent = λ j. record {
   number = outcomeNumber (x .outcome j);
   count = x .count j;
@@ -49,10 +49,10 @@ gives-refused s o r x lent = λ j. record {
 
 module _ (old : List ℕ) (k : Clock) (allowance room : ℕ) where
   abbrev s : Plain
-  s = imaged old
+  s = decodeImage old
 
   -- a refused search writes nothing
-  refusing : (o : Outcome) (r : Entries) → Refuses o r → ((lent : List EntryRecord) → length lent ≡ room → searchRefused (outcomeNumber o) lent s ≡ searchCall k allowance lent s)
+  refusing : (o : SearchOutcome) (r : Entries) → Refuses o r → ((lent : List EntryRecord) → length lent ≡ room → searchRefused (outcomeNumber o) lent s ≡ searchCall k allowance lent s)
       → SearchesIn old k allowance room r old
   refusing o r x h =
       record { gives = λ lent l. gives-refused s o r x lent ∙ h lent l; fits = omega (arith, x .count); enough = omega (arith, x .count); exact = λ e. e; kept = λ _. refl }
@@ -97,6 +97,6 @@ module _ (old : List ℕ) (k : Clock) (allowance room : ℕ) where
                   ∙ sym (rw (clock-good, sym ee, not-false e rest, le-ltb (length lent) (length (s .meters)) (omega arith)) refl);
               fits = omega arith;
               enough = omega arith;
-              exact = λ z. x .image .exact z ∙ ap imageOf (sym (x .image .means));
+              exact = λ z. x .image .exact z ∙ ap encodeImage (sym (x .image .means));
               kept = λ z. absurd (omega (arith, z, ap outcomeNumber (x .outcome)));
             }

@@ -9,17 +9,17 @@ use lib.ListN.{length, length-map}
 use Rattle.laws.specs.Words.{Every}
 use Rattle.laws.proofs.Lists.{every-map, every-image, every-back}
 use Rattle.frame.specs.Frame.{Telegram, encode}
-use Rattle.clock.specs.declared.Clock.{Clock}
-use Rattle.scenarios.specs.Opening.{Opened, opens, refuses, refusesRecord, openList, capacity}
-use Rattle.scenarios.proofs.OpeningLaws.{OpensWell, openList-well}
-use Rattle.bus.specs.Plain.{Plain, blank}
-use Rattle.bus.specs.Calls.{afterOpening}
-use Rattle.send.proofs.SendLaws.{ids, send-ids}
-use Rattle.walk.specs.Walk.{mask, reading, ask, probe, read, Walked, wholeWalk}
-use Rattle.walk.proofs.Model.{Digits}
-use Rattle.walk.proofs.Seen.{IdDigits, WellFormed}
-use Rattle.walk.proofs.Keeps.{walk-keeps}
-use Rattle.walk.proofs.Upward.{walkDown, whole-down}
+use Rattle.time_clock.specs.declared.Clock.{Clock}
+use Rattle.list_open.specs.Opening.{Opened, opens, refuses, refusesRecord, openList, capacity}
+use Rattle.list_open.proofs.OpeningLaws.{OpensWell, openList-well}
+use Rattle.segment.specs.Plain.{Plain, blank}
+use Rattle.segment.specs.Calls.{afterOpening}
+use Rattle.segment_send.proofs.SendLaws.{ids, send-ids}
+use Rattle.search_walk.specs.Walk.{mask, reading, ask, probe, read, Walked, wholeWalk}
+use Rattle.search_walk.proofs.Model.{Digits}
+use Rattle.search_walk.proofs.Seen.{IdDigits, WellFormed}
+use Rattle.search_walk.proofs.Keeps.{walk-keeps}
+use Rattle.search_walk.proofs.Upward.{walkDown, whole-down}
 use Rattle.search.specs.declared.EntryRecord.{EntryRecord}
 use Rattle.search.specs.SearchCall.{Searched, searchCall}
 use Rattle.search.proofs.Allowed.{search-cases}

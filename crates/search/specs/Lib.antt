@@ -1,6 +1,6 @@
 pub mod SearchCall
-pub mod Demand
-pub mod Packing
+pub mod Demanded
+pub mod ProgramPacking
 pub mod View
 pub mod ProgramSearch
 pub mod Site

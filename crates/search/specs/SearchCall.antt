@@ -5,10 +5,10 @@ use Prim.Native.Nat.{ℕ}
 use lib.Dec.{eqb, ltb}
 use lib.ListN.{length, drop}
 use Rattle.laws.specs.Words.{if_then_else_}
-use Rattle.clock.specs.declared.Clock.{Clock}
-use Rattle.bus.specs.Plain.{Plain}
-use Rattle.clock.specs.Fields.{goodClock}
-use Rattle.walk.specs.Walk.{maskDigits, Entry, one, mute, many, Walked, wholeWalk}
+use Rattle.time_clock.specs.declared.Clock.{Clock}
+use Rattle.segment.specs.Plain.{Plain}
+use Rattle.time_clock.specs.Fields.{goodClock}
+use Rattle.search_walk.specs.Walk.{maskDigits, Entry, one, mute, many, Walked, wholeWalk}
 use Rattle.search.specs.declared.EntryRecord.{EntryRecord}
 use Rattle.search.specs.declared.Kind.the-variants.{One, Mute, Many}
 

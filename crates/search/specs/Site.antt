@@ -2,10 +2,10 @@
 use mathlib.Core.Bool.{false}
 use mathlib.Core.List.{List}
 use Prim.Native.Nat.{ℕ}
-use Rattle.seconds.specs.Seconds.{zeroSeconds}
-use Rattle.clock.specs.declared.Clock.{Clock}
-use Rattle.bus.specs.Plain.{Plain, blank}
-use Rattle.bus.specs.Calls.{afterOpening}
+use Rattle.time_seconds.specs.Seconds.{zeroSeconds}
+use Rattle.time_clock.specs.declared.Clock.{Clock}
+use Rattle.segment.specs.Plain.{Plain, blank}
+use Rattle.segment.specs.Calls.{afterOpening}
 
 -- "opens at 2400 without the flag, origin .. 0": the first opening of a segment
 unfoldable pub site : List ℕ → Plain

@@ -3,13 +3,13 @@ use mathlib.Core.Path.{_≡_}
 use mathlib.Core.List.{List, [], _++_}
 use Prim.Native.Nat.{ℕ, _≤_, _<_}
 use lib.ListN.{length, take, drop}
-use Rattle.clock.specs.declared.Clock.{Clock}
-use Rattle.scenarios.specs.Opening.{mostMeters}
-use Rattle.bus.specs.Plain.{Plain}
-use Rattle.image.specs.Image.{imaged, Exact}
+use Rattle.time_clock.specs.declared.Clock.{Clock}
+use Rattle.list_open.specs.Opening.{mostMeters}
+use Rattle.segment.specs.Plain.{Plain}
+use Rattle.segment_image.specs.Image.{decodeImage, Exact}
 use Rattle.search.specs.declared.EntryRecord.{EntryRecord}
-use Rattle.search.specs.declared.Outcome.{Outcome}
-use Rattle.search.specs.declared.Outcome.the-variants.{Made, ClockOutOfRange, NotEmpty, TooFewLent}
+use Rattle.search.specs.declared.SearchOutcome.{SearchOutcome}
+use Rattle.search.specs.declared.SearchOutcome.the-variants.{Made, ClockOutOfRange, NotEmpty, TooFewLent}
 use Rattle.search.specs.declared.Kind.the-variants.{One}
 use Rattle.search.specs.declared.Entries.{Entries}
 use Rattle.search.specs.declared.Searched as answers
@@ -17,7 +17,7 @@ use Rattle.search.specs.SearchCall as definitions
 use Rattle.search.specs.SearchCall.{searchCall}
 
 -- 01's number of an outcome
-abbrev pub outcomeNumber : Outcome → ℕ
+abbrev pub outcomeNumber : SearchOutcome → ℕ
 outcomeNumber Made = 0
 outcomeNumber ClockOutOfRange = 14
 outcomeNumber NotEmpty = 16
@@ -36,7 +36,7 @@ searchedOf r lent after = record { number = outcomeNumber (r .outcome); count = 
 -- It gives what 01's search of the segment that the image means gives into the records `lent`, which are `lent₁` afterwards.
 -- The image stays exact if it was; where the search is refused every byte stays.
 pub record SearchesInto (old : List ℕ) (k : Clock) (allowance : ℕ) (lent : List EntryRecord) (r : answers.Searched) (lent₁ : List EntryRecord) (new : List ℕ) : Type 0 where
-  pub gives : searchedOf r lent₁ (imaged new) ≡ searchCall k allowance lent (imaged old)
+  pub gives : searchedOf r lent₁ (decodeImage new) ≡ searchCall k allowance lent (decodeImage old)
   pub exact : Exact old → Exact new
   pub kept : 0 < outcomeNumber (r .outcome) → new ≡ old
 
@@ -57,7 +57,7 @@ entriesGive r after lent =
 -- It gives what 01's search of the segment that the image means gives into any `room` records lent; its entries fit both the array and the room.
 -- The image stays exact if it was; where the search is refused every byte stays.
 pub record SearchesIn (old : List ℕ) (k : Clock) (allowance room : ℕ) (r : Entries) (new : List ℕ) : Type 0 where
-  pub gives : (lent : List EntryRecord) → length lent ≡ room → entriesGive r (imaged new) lent ≡ searchCall k allowance lent (imaged old)
+  pub gives : (lent : List EntryRecord) → length lent ≡ room → entriesGive r (decodeImage new) lent ≡ searchCall k allowance lent (decodeImage old)
   pub fits : r .count ≤ mostMeters
   pub enough : r .count ≤ room
   pub exact : Exact old → Exact new

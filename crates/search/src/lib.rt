@@ -1,18 +1,18 @@
 // The search: the meters of a segment's image are packed into numbers, the walk runs over these, and what it found and left is unpacked.
 ghost use mathlib.Core.Path.{_≡_};
 ghost use Prim.Native.Nat.{_<_};
-ghost use Rattle.scenarios.specs.Opening.{capacity};
-ghost use Rattle.image.specs.Image.{imaged};
+ghost use Rattle.list_open.specs.Opening.{capacity};
+ghost use Rattle.segment_image.specs.Image.{decodeImage};
 ghost use Rattle.search.specs.SearchCall.{isEmpty};
 ghost use Rattle.search.specs.View.{outcomeNumber, SearchesIn, SearchesInto};
 ghost use Rattle.search.specs.ProgramSearch.{Refuses, Walks, answerOf, recordAt, listedOf};
-use bus::METERS;
-use clock::Clock;
-use clock::good_clock;
-use image::IMAGE;
 use laws::least;
-use packed::walk_all;
+use search_packed::walk_all;
+use segment::METERS;
+use segment_image::IMAGE;
 use segment_places::head;
+use time_clock::Clock;
+use time_clock::good_clock;
 
 mod pack;
 
@@ -31,27 +31,27 @@ pub struct EntryRecord {
 }
 
 // A search was made, or why it was refused.
-pub enum Outcome {
+pub enum SearchOutcome {
     Made,
     ClockOutOfRange,
     NotEmpty,
     TooFewLent,
 }
 
-pub fn outcome_number(outcome: Outcome) -> u32
+pub fn outcome_number(outcome: SearchOutcome) -> u32
     ensures { λ r. ⌜ r ≡ outcomeNumber outcome ⌝ }
 {
     match outcome {
-        Outcome::Made => 0,
-        Outcome::ClockOutOfRange => 14,
-        Outcome::NotEmpty => 16,
-        Outcome::TooFewLent => 17,
+        SearchOutcome::Made => 0,
+        SearchOutcome::ClockOutOfRange => 14,
+        SearchOutcome::NotEmpty => 16,
+        SearchOutcome::TooFewLent => 17,
     }
 }
 
 // What a search gives beside the segment: the first `count` entries are those found.
 pub struct Entries {
-    pub outcome: Outcome,
+    pub outcome: SearchOutcome,
     pub entries: [EntryRecord; METERS],
     pub count: usize,
     pub probes: u32,
@@ -59,7 +59,7 @@ pub struct Entries {
 }
 
 // A refused search: no entry, no probe.
-fn refused(outcome: Outcome) -> Entries
+fn refused(outcome: SearchOutcome) -> Entries
     ensures { λ r. ⌜ Refuses outcome r ⌝ }
 {
     let entries = pack::blank_records();
@@ -84,7 +84,7 @@ fn walk_packed(image: &mut [u8; IMAGE], allowance: u32) -> Entries
     let entries = w.entries;
     pack::unmark_all(image, left);
     let records = pack::records_of(entries, found);
-    let made = Outcome::Made;
+    let made = SearchOutcome::Made;
     Entries {
         outcome: made,
         entries: records,
@@ -96,7 +96,7 @@ fn walk_packed(image: &mut [u8; IMAGE], allowance: u32) -> Entries
 
 // No input waits, and no reply is queued.
 fn is_empty(image: &[u8; IMAGE]) -> bool
-    ensures { λ r. ⌜ r ≡ isEmpty (imaged (now (image .entry))) ⌝ }
+    ensures { λ r. ⌜ r ≡ isEmpty (decodeImage (now (image .entry))) ⌝ }
 {
     if head::waiting_of(image) == 0 {
         return head::queued_of(image) == 0;
@@ -109,15 +109,15 @@ fn search_core(image: &mut [u8; IMAGE], clock: Clock, allowance: u32, room: usiz
     ensures { λ r. ⌜ SearchesIn (now (image .entry)) clock allowance room r (now (image .exit)) ⌝ }
 {
     if !good_clock(clock) {
-        let out = Outcome::ClockOutOfRange;
+        let out = SearchOutcome::ClockOutOfRange;
         return refused(out);
     }
     if !is_empty(image) {
-        let out = Outcome::NotEmpty;
+        let out = SearchOutcome::NotEmpty;
         return refused(out);
     }
     if room < head::count_of(image) {
-        let out = Outcome::TooFewLent;
+        let out = SearchOutcome::TooFewLent;
         return refused(out);
     }
     walk_packed(image, allowance)
@@ -125,7 +125,7 @@ fn search_core(image: &mut [u8; IMAGE], clock: Clock, allowance: u32, room: usiz
 
 // What a search answers; the entries found are in the first `count` of the lent records.
 pub struct Searched {
-    pub outcome: Outcome,
+    pub outcome: SearchOutcome,
     pub count: usize,
     pub probes: u32,
     pub spent: bool,

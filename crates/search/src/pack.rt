@@ -4,21 +4,21 @@ ghost use mathlib.Core.List.{map};
 ghost use Prim.Native.Nat.{_≤_, min};
 ghost use lib.ListN.{take, replicate};
 ghost use Rattle.laws.specs.Words.{Every};
-ghost use Rattle.identity.specs.Identity.{digitsOf};
+ghost use Rattle.meter_identity.specs.Identity.{digitsOf};
 ghost use Rattle.meter.specs.View.{plainMeter};
-ghost use Rattle.scenarios.specs.Opening.{capacity};
-ghost use Rattle.image.specs.Image.{imaged};
-ghost use Rattle.segment_places.specs.Becomes.{Becomes};
-ghost use Rattle.search.specs.Packing.{faultBits, keyOf, markOf, Bounded, packed, lastIn, partIn, seenAs, unmarked, kindIn, countIn, recordIn};
+ghost use Rattle.list_open.specs.Opening.{capacity};
+ghost use Rattle.segment_image.specs.Image.{decodeImage};
+ghost use Rattle.segment_places.specs.ProgramBecomes.{Becomes};
+ghost use Rattle.search.specs.ProgramPacking.{faultBits, keyOf, markOf, Bounded, packed, lastIn, partIn, seenAs, unmarked, kindIn, countIn, recordIn};
 use crate::EntryRecord;
 use crate::Kind;
-use bus::METERS;
-use image::IMAGE;
 use laws::bit;
 use laws::least;
 use meter::Fault;
 use meter::LastFcb;
 use meter::Meter;
+use segment::METERS;
+use segment_image::IMAGE;
 use segment_places::head;
 use segment_places::meters::meter_at;
 use segment_places::meters::put_meter;
@@ -63,7 +63,7 @@ fn mark_of(m: Meter, bus: u32) -> u32
 }
 
 pub(crate) fn keys_of(image: &[u8; IMAGE]) -> [u32; METERS]
-    ensures { λ r. ⌜ r ≡ packed keyOf (imaged (now (image .entry)) .meters) ⌝ }
+    ensures { λ r. ⌜ r ≡ packed keyOf (decodeImage (now (image .entry)) .meters) ⌝ }
 {
     let mut keys = zeros();
     let end = head::count_of(image);
@@ -78,7 +78,7 @@ pub(crate) fn keys_of(image: &[u8; IMAGE]) -> [u32; METERS]
 }
 
 pub(crate) fn marks_of(image: &[u8; IMAGE]) -> [u32; METERS]
-    ensures { λ r. ⌜ (r ≡ packed (markOf (imaged (now (image .entry)) .baud)) (imaged (now (image .entry)) .meters)) × Every Bounded (imaged (now (image .entry)) .meters) ⌝ }
+    ensures { λ r. ⌜ (r ≡ packed (markOf (decodeImage (now (image .entry)) .baud)) (decodeImage (now (image .entry)) .meters)) × Every Bounded (decodeImage (now (image .entry)) .meters) ⌝ }
 {
     let mut marks = zeros();
     let end = head::count_of(image);
@@ -150,7 +150,7 @@ fn unmark(m: Meter, bus: u32, mark: u32) -> Meter
 
 // Each meter as its mark has it, over the bytes that it had.
 pub(crate) fn unmark_all(image: &mut [u8; IMAGE], marks: [u32; METERS])
-    ensures { λ _. ⌜ Becomes (now (image .entry)) (unmarked marks (imaged (now (image .entry)))) (now (image .exit)) ⌝ }
+    ensures { λ _. ⌜ Becomes (now (image .entry)) (unmarked marks (decodeImage (now (image .entry)))) (now (image .exit)) ⌝ }
 {
     let end = head::count_of(image);
     let bus = head::baud_of(image);

@@ -5,9 +5,9 @@ use mathlib.Core.Bool.{Bool, true, false, not}
 use Prim.Native.Nat.{ℕ}
 use borrow.Author.Tests.{not-true, not-false}
 use Rattle.meter.specs.Meter.{rates}
-use Rattle.rules.specs.Tables.{isRate}
-use Rattle.bus.specs.Plain.{Plain}
-use Rattle.bus.specs.Calls.{accepted, refused, changeBaud}
+use Rattle.list_check.specs.Tables.{isRate}
+use Rattle.segment.specs.Plain.{Plain}
+use Rattle.segment.specs.Calls.{accepted, refused, changeBaud}
 
 module _ (b : ℕ) (s : Plain) {rate : Bool} (e : rate ≡ isRate rates b) where
   pub baud-refused : not rate ≡ true → refused 10 s ≡ changeBaud b s

@@ -3,18 +3,18 @@ use mathlib.Core.Path.{ap, ap₂, _∙_}
 use mathlib.Core.List.{List, [], _++_}
 use Prim.Native.Nat.{ℕ}
 use lib.ListN.{take, drop}
-use Rattle.bus.specs.Plain.{withQueue}
-use Rattle.bus.specs.Calls.{clear, receive}
-use Rattle.image.specs.Image.{imaged}
-use Rattle.image.specs.Answers.{receivedBy, ReceivedImage, LeftImage}
-use Rattle.segment_places.specs.Becomes.{Becomes, HandsOut}
+use Rattle.segment.specs.Plain.{withQueue}
+use Rattle.segment.specs.Calls.{clear, receive}
+use Rattle.segment_image.specs.Image.{decodeImage}
+use Rattle.segment_image.specs.Answers.{receivedBy, ReceivedImage, LeftImage}
+use Rattle.segment_places.specs.ProgramBecomes.{Becomes, HandsOut}
 use Rattle.segment_places.proofs.Becoming.{becomes-exact}
 
-pub received : (l lent : List ℕ) {n : ℕ} {out new : List ℕ} → HandsOut 32 (imaged l .queue) lent n out → Becomes l (withQueue (drop n (imaged l .queue)) (imaged l)) new
-    → ReceivedImage (receive lent (imaged l)) n out l new
+pub received : (l lent : List ℕ) {n : ℕ} {out new : List ℕ} → HandsOut 32 (decodeImage l .queue) lent n out → Becomes l (withQueue (drop n (decodeImage l .queue)) (decodeImage l)) new
+    → ReceivedImage (receive lent (decodeImage l)) n out l new
 unfolding receive receivedBy
 received l lent {n} {out} {new} h b =
-    let s = imaged l in
+    let s = decodeImage l in
     record {
       answer =
           ap₂ (λ x t. record { count = n; lent = x; segment = t }) (h .given) (b .means)
@@ -22,6 +22,6 @@ received l lent {n} {out} {new} h b =
       exact = becomes-exact b;
     }
 
-pub cleared : {old new : List ℕ} → Becomes old (withQueue [] (imaged old)) new → LeftImage (clear (imaged old)) old new
+pub cleared : {old new : List ℕ} → Becomes old (withQueue [] (decodeImage old)) new → LeftImage (clear (decodeImage old)) old new
 unfolding clear
 cleared b = record { segment = b .means; exact = becomes-exact b }

@@ -11,19 +11,19 @@ use Rattle.laws.specs.Words.{at}
 use Rattle.laws.proofs.Lists.{if-all}
 use Rattle.meter.specs.PlainMeter.{PlainMeter}
 use Rattle.meter.specs.Meter.{rates}
-use Rattle.rules.specs.Tables.{isRate}
-use Rattle.meter_list.specs.Layout.{Layout, fits, noFit, readRecords}
-use Rattle.rules.specs.Check.{allPass}
-use Rattle.rules.specs.Checked.{failNumber}
-use Rattle.refusals.specs.Refusals.{isAccepted}
-use Rattle.scenarios.specs.Opening.{capacity, Opened, opens, refuses, refusesRecord, metersIn, OpeningGives, openRecords, openList}
-use Rattle.refusals.specs.Refusals.{refusalNumber, refusalIndex}
-use Rattle.refusals.specs.declared.Refusal.{Refusal}
-use Rattle.refusals.specs.declared.Refusal.the-variants.{Accepted, Version, Length, Capacity, AtRecord, Baud}
-use Rattle.rules.specs.declared.Failing.{Failing}
-use Rattle.rules.specs.declared.Failing.the-variants.{BadPrimary, BadId, BadManufacturer, BadMedium, BadBaud, BadFault}
-use Rattle.bus.specs.Plain.{Plain}
-use Rattle.bus.specs.Calls.{afterOpening}
+use Rattle.list_check.specs.Tables.{isRate}
+use Rattle.list.specs.Layout.{Layout, fits, noFit, readRecords}
+use Rattle.list_check.specs.Check.{allPass}
+use Rattle.list_check.specs.Checked.{failNumber}
+use Rattle.list_check.specs.Refusals.{isAccepted}
+use Rattle.list_open.specs.Opening.{capacity, Opened, opens, refuses, refusesRecord, metersIn, OpeningGives, openRecords, openList}
+use Rattle.list_check.specs.Refusals.{refusalNumber, refusalIndex}
+use Rattle.list_check.specs.declared.refusal.Refusal.{Refusal}
+use Rattle.list_check.specs.declared.refusal.Refusal.the-variants.{Accepted, Version, Length, Capacity, AtRecord, Baud}
+use Rattle.list_check.specs.declared.Failing.{Failing}
+use Rattle.list_check.specs.declared.Failing.the-variants.{BadPrimary, BadId, BadManufacturer, BadMedium, BadBaud, BadFault}
+use Rattle.segment.specs.Plain.{Plain}
+use Rattle.segment.specs.Calls.{afterOpening}
 
 -- ---- a refusal has a number above 0
 

@@ -5,14 +5,14 @@ use Prim.Native.Nat.{ℕ, _+_, _^_, _≤_, _<_}
 use native.Mathlib.Omega.{arith}
 use lib.ListN.{length, take, drop}
 use lib.Seq.{paste, length-paste, drop-paste, take-all}
-use Rattle.values.specs.Values.{little}
+use Rattle.numbers.specs.Values.{little}
 use Rattle.numbers.specs.Number.{number}
 use Rattle.numbers.proofs.NumberLaws.{number-little}
-use Rattle.bus.specs.Plain.{Plain}
-use Rattle.image.specs.Image.{imaged, filled, imageOf}
-use Rattle.segment_places.specs.Becomes.{Becomes}
+use Rattle.segment.specs.Plain.{Plain}
+use Rattle.segment_image.specs.Image.{decodeImage, filled, encodeImage}
+use Rattle.segment_places.specs.ProgramBecomes.{Becomes}
 use Rattle.segment_places.proofs.PlaceLaws.{input-short, queue-short}
-use Rattle.bus.specs.Plain.{withBaud}
+use Rattle.segment.specs.Plain.{withBaud}
 use Rattle.segment_places.proofs.PartLaws.{whole, Parts, headOf, metersOf, number-drop, number-front, parts-mean, put-head, parts-are, parts-long, image-parts, image-parts-long}
 
 little-four : (b : ℕ) → length (little 4 b) ≡ 4
@@ -37,29 +37,29 @@ module _ (l : List ℕ) (long : length l ≡ 5974) (b : ℕ) (small : b < 2 ^ 32
       ∙ number-front 4 0 (little 4 b) (drop 4 h) (omega (arith, little-four b))
       ∙ number-little 4 b (omega arith)
 
-  set-means : imaged (set l) ≡ withBaud b (imaged l)
+  set-means : decodeImage (set l) ≡ withBaud b (decodeImage l)
   set-means =
       let k = parts-long l long in
       let h = take 14 l in
       let m = parts-mean (drop 4374 l) k in
       let k′ : Parts (set h) (take 2 (drop 14 l)) (take 2 (drop 16 l)) (take 260 (drop 18 l)) (take 4096 (drop 278 l)) =
       record { head-long = set-long h (omega (arith, k .head-long)) ∙ k .head-long; waiting-long = k .waiting-long; queued-long = k .queued-long; input-long = k .input-long; queue-long = k .queue-long } in
-      ap (λ t. imaged (set t)) (parts-are l)
-      ∙ ap imaged (put-head (drop 4374 l) k (little 4 b) 4 0 (omega arith))
+      ap (λ t. decodeImage (set t)) (parts-are l)
+      ∙ ap decodeImage (put-head (drop 4374 l) k (little 4 b) 4 0 (omega arith))
       ∙ parts-mean (drop 4374 l) k′
-      ∙ rw (baud-set h, number-set 8 0 h (k .head-long), number-set 2 8 h (k .head-long)) (ap (withBaud b) (sym m ∙ ap imaged (sym (parts-are l))))
+      ∙ rw (baud-set h, number-set 8 0 h (k .head-long), number-set 2 8 h (k .head-long)) (ap (withBaud b) (sym m ∙ ap decodeImage (sym (parts-are l))))
 
   head-set : (s : Plain) → set (headOf s) ≡ headOf (withBaud b s)
   unfolding little
   head-set s = refl
 
-  set-exact : l ≡ imageOf (imaged l) → set l ≡ imageOf (withBaud b (imaged l))
+  set-exact : l ≡ encodeImage (decodeImage l) → set l ≡ encodeImage (withBaud b (decodeImage l))
   set-exact e =
-      let s = imaged l in
+      let s = decodeImage l in
       ap set (e ∙ image-parts s)
       ∙ put-head (metersOf s) (image-parts-long s (input-short l) (queue-short l)) (little 4 b) 4 0 (omega arith)
       ∙ ap (λ x. whole x (little 2 (length (s .input))) (little 2 (length (s .queue))) (filled 260 (s .input)) (filled 4096 (s .queue)) (metersOf s)) (head-set s)
       ∙ sym (image-parts (withBaud b s))
 
-  pub baud-becomes : Becomes l (withBaud b (imaged l)) (set l)
+  pub baud-becomes : Becomes l (withBaud b (decodeImage l)) (set l)
   baud-becomes = record { long = set-long l (omega arith); means = set-means; exact = set-exact }

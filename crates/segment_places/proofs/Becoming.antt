@@ -3,13 +3,13 @@ use mathlib.Core.Path.{_≡_, refl, sym, ap, subst, _∙_}
 use mathlib.Core.List.{List}
 use Prim.Native.Nat.{ℕ}
 use native.Mathlib.Omega.{arith}
-use Rattle.bus.specs.Plain.{Plain}
-use Rattle.bus.specs.Calls.{Done, accepted, refused}
-use Rattle.image.specs.Image.{imaged, imageOf, Exact}
-use Rattle.image.specs.Answers.{doneBy, DoneImage}
-use Rattle.segment_places.specs.Becomes.{Becomes}
+use Rattle.segment.specs.Plain.{Plain}
+use Rattle.segment.specs.Calls.{Done, accepted, refused}
+use Rattle.segment_image.specs.Image.{decodeImage, encodeImage, Exact}
+use Rattle.segment_image.specs.Answers.{doneBy, DoneImage}
+use Rattle.segment_places.specs.ProgramBecomes.{Becomes}
 
-pub becomes-same : {l : List ℕ} → Becomes l (imaged l) l
+pub becomes-same : {l : List ℕ} → Becomes l (decodeImage l) l
 becomes-same = record { long = refl; means = refl; exact = λ e. e }
 
 pub becomes-as : {a b : List ℕ} {s t : Plain} → s ≡ t → Becomes a s b → Becomes a t b
@@ -20,12 +20,12 @@ becomes-then p q =
     record {
       long = q .long ∙ p .long;
       means = q .means;
-      exact = λ e. q .exact (p .exact e ∙ ap imageOf (sym (p .means)));
+      exact = λ e. q .exact (p .exact e ∙ ap encodeImage (sym (p .means)));
     }
 
 -- the one image of a segment stays one
 pub becomes-exact : {a b : List ℕ} {s : Plain} → Becomes a s b → Exact a → Exact b
-becomes-exact p e = p .exact e ∙ ap imageOf (sym (p .means))
+becomes-exact p e = p .exact e ∙ ap encodeImage (sym (p .means))
 
 -- ---- what a call answers
 
@@ -33,7 +33,7 @@ pub done-as : {d e : Done} {old new : List ℕ} {n : ℕ} → d ≡ e → DoneIm
 done-as {old = old} {new = new} {n = n} q a = subst (λ x. DoneImage x n old new) q a
 
 -- refused before anything was done
-pub done-none : {d : Done} {old : List ℕ} (n : ℕ) → refused n (imaged old) ≡ d → DoneImage d n old old
+pub done-none : {d : Done} {old : List ℕ} (n : ℕ) → refused n (decodeImage old) ≡ d → DoneImage d n old old
 unfolding doneBy
 done-none n e = record { answer = e; exact = λ x. x; kept = λ x. refl }
 

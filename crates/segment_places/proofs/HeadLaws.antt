@@ -7,7 +7,7 @@ use lib.ListN.{take, drop}
 use lib.Seq.{getD-take, getD-drop}
 use Rattle.laws.specs.Words.{at}
 use Rattle.numbers.specs.Number.{number}
-use Rattle.image.specs.Image.{block}
+use Rattle.segment_image.specs.Image.{block}
 
 pub two-bytes : (p : ℕ) (bs : List ℕ) → number 2 0 (at bs p ∷ at bs (p + 1) ∷ []) ≡ number 2 p bs
 unfolding number

@@ -5,12 +5,12 @@ use Prim.Native.Nat.{ℕ, _+_, _-_, _≤_}
 use native.Mathlib.Omega.{arith}
 use lib.ListN.{length, take, drop}
 use lib.Seq.{paste, length-paste, take-paste, take-length}
-use Rattle.image.specs.Image.{imaged}
+use Rattle.segment_image.specs.Image.{decodeImage}
 use Rattle.segment_places.proofs.PlaceLaws.{input-count}
 
 -- what waits, as a part of the image
-pub input-is : (l : List ℕ) (n : ℕ) → length l ≡ 5974 → n ≡ length (imaged l .input) → take (18 + n - 18) (drop 18 l) ≡ imaged l .input
-unfolding imaged
+pub input-is : (l : List ℕ) (n : ℕ) → length l ≡ 5974 → n ≡ length (decodeImage l .input) → take (18 + n - 18) (drop 18 l) ≡ decodeImage l .input
+unfolding decodeImage
 input-is l n h e =
     let d : 18 + n - 18 ≡ n = omega arith in
     ap (λ k. take k (drop 18 l)) (d ∙ e ∙ input-count l h)

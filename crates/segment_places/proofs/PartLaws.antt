@@ -7,15 +7,15 @@ use lib.Ieee.{binary64, toBits, ofBits}
 use lib.ListN.{length, take, drop, length-take, length-drop, take-append-drop}
 use lib.Seq.{paste, take-append-le, drop-append-le, take-all, take-at, drop-at, drop-drop, getD-drop, length-take-le}
 use Rattle.laws.specs.Words.{each, at}
-use Rattle.values.specs.Values.{little}
-use Rattle.meter_image.specs.MeterBytes.{meterBytes}
-use Rattle.scenarios.specs.Opening.{capacity}
+use Rattle.numbers.specs.Values.{little}
+use Rattle.segment_image.specs.MeterBytes.{encodeMeter}
+use Rattle.list_open.specs.Opening.{capacity}
 use Rattle.numbers.specs.Number.{number}
 use Rattle.numbers.proofs.NumberLaws.{number-take}
-use Rattle.bus.specs.Plain.{Plain}
-use Rattle.image.specs.Image.{meters, imaged, headBytes, filled, imageOf}
-use Rattle.image.proofs.Filled.{length-filled}
-use Rattle.segment_places.proofs.PlaceLaws.{paste-behind, imaged-by}
+use Rattle.segment.specs.Plain.{Plain}
+use Rattle.segment_image.specs.Image.{meters, decodeImage, headBytes, filled, encodeImage}
+use Rattle.segment_image.proofs.Filled.{length-filled}
+use Rattle.segment_places.proofs.PlaceLaws.{paste-behind, decodeImage-by}
 
 -- ---- lists
 
@@ -80,7 +80,7 @@ module _ {h w q i qs : List ℕ} (ms : List ℕ) (k : Parts h w q i qs) where
   queued-is = number-drop 2 16 0 l ∙ ap (number 2 0) from-16 ∙ number-front 2 0 q _ (omega (arith, k .queued-long))
 
   -- what they mean
-  pub parts-mean : imaged l
+  pub parts-mean : decodeImage l
       ≡ record {
         baud = number 4 0 h;
         origin = ofBits binary64 (number 8 4 h);
@@ -89,7 +89,7 @@ module _ {h w q i qs : List ℕ} (ms : List ℕ) (k : Parts h w q i qs) where
         meters = meters (min (number 2 12 h) capacity) ms;
       }
   parts-mean =
-      imaged-by _ l (number-front 4 0 h _ (omega (arith, k .head-long))) (ap (ofBits binary64) (number-front 8 4 h _ (omega (arith, k .head-long))))
+      decodeImage-by _ l (number-front 4 0 h _ (omega (arith, k .head-long))) (ap (ofBits binary64) (number-front 8 4 h _ (omega (arith, k .head-long))))
       (ap₂ (λ n x. take (min n 260) x) waiting-is from-18 ∙ take-append-le (min (number 2 0 w) 260) i (qs ++ ms) (omega (arith, k .input-long)))
       (ap₂ (λ n x. take (min n 4096) x) queued-is from-278 ∙ take-append-le (min (number 2 0 q) 4096) qs ms (omega (arith, k .queue-long)))
       (ap₂ (λ n x. meters (min n capacity) x) (number-front 2 12 h _ (omega (arith, k .head-long))) from-4374)
@@ -159,10 +159,10 @@ abbrev pub headOf : Plain → List ℕ
 headOf s = little 4 (s .baud) ++ little 8 (toBits binary64 (s .origin)) ++ little 2 (length (s .meters))
 
 abbrev pub metersOf : Plain → List ℕ
-metersOf s = filled (25 * capacity) (each (s .meters) meterBytes)
+metersOf s = filled (25 * capacity) (each (s .meters) encodeMeter)
 
-pub image-parts : (s : Plain) → imageOf s ≡ whole (headOf s) (little 2 (length (s .input))) (little 2 (length (s .queue))) (filled 260 (s .input)) (filled 4096 (s .queue)) (metersOf s)
-unfolding imageOf headBytes
+pub image-parts : (s : Plain) → encodeImage s ≡ whole (headOf s) (little 2 (length (s .input))) (little 2 (length (s .queue))) (filled 260 (s .input)) (filled 4096 (s .queue)) (metersOf s)
+unfolding encodeImage headBytes
 image-parts s = simp append-assoc
 
 pub little-two : (n : ℕ) → length (little 2 n) ≡ 2

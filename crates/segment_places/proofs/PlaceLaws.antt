@@ -9,18 +9,18 @@ use lib.Seq.{paste, length-paste, drop-append-le, take-append-add, drop-append-a
 use Rattle.laws.proofs.Copy.{drop-take}
 use Rattle.laws.specs.Words.{each}
 use Rattle.laws.proofs.Rows.{length-rows}
-use Rattle.values.specs.Values.{little}
+use Rattle.numbers.specs.Values.{little}
 use Rattle.meter.specs.PlainMeter.{PlainMeter}
-use Rattle.meter_image.specs.MeterBytes.{metered, wholeMeter, meterBytes}
-use Rattle.meter_image.proofs.MeterLaws.{meter-long}
-use Rattle.scenarios.specs.Opening.{capacity}
+use Rattle.segment_image.specs.MeterBytes.{decodeMeter, wholeMeter, encodeMeter}
+use Rattle.segment_image.proofs.MeterByteLaws.{meter-long}
+use Rattle.list_open.specs.Opening.{capacity}
 use Rattle.numbers.specs.Number.{number}
 use Rattle.numbers.proofs.NumberLaws.{number-take}
-use Rattle.bus.specs.Plain.{Plain, withMeters}
-use Rattle.image.specs.Image.{block, meters, imaged, headBytes, filled, imageOf}
-use Rattle.image.proofs.Blocks.{paste-before, block-same}
-use Rattle.image.proofs.Filled.{length-filled}
-use Rattle.segment_places.specs.Becomes.{meterIn, Becomes}
+use Rattle.segment.specs.Plain.{Plain, withMeters}
+use Rattle.segment_image.specs.Image.{block, meters, decodeImage, headBytes, filled, encodeImage}
+use Rattle.segment_image.proofs.Blocks.{paste-before, block-same}
+use Rattle.segment_image.proofs.Filled.{length-filled}
+use Rattle.segment_places.specs.ProgramBecomes.{meterIn, Becomes}
 
 -- ---- lists
 
@@ -68,10 +68,10 @@ drop-past (suc k) (x ∷ xs) h = drop-past k xs (omega arith)
 -- ---- meters, one behind the other
 
 -- past the last place there are no bytes
-pub meter-past : (l : List ℕ) (i n : ℕ) → length l ≡ 5974 → 64 ≤ i → metered (wholeMeter (take n (drop 5974 l))) ≡ meterIn i l
+pub meter-past : (l : List ℕ) (i n : ℕ) → length l ≡ 5974 → 64 ≤ i → decodeMeter (wholeMeter (take n (drop 5974 l))) ≡ meterIn i l
 meter-past l i n e h =
-    ap metered (ap (λ x. wholeMeter (take n x)) (drop-past 5974 l (omega arith)) ∙ ap wholeMeter (take-none n))
-    ∙ sym (ap (λ x. metered (take 25 x)) (drop-past (4374 + 25 * i) l (omega arith)))
+    ap decodeMeter (ap (λ x. wholeMeter (take n x)) (drop-past 5974 l (omega arith)) ∙ ap wholeMeter (take-none n))
+    ∙ sym (ap (λ x. decodeMeter (take 25 x)) (drop-past (4374 + 25 * i) l (omega arith)))
 
 next : (i : ℕ) → 25 * suc i ≡ 25 + 25 * i
 next i = omega arith
@@ -82,53 +82,53 @@ meters-long zero l = refl
 meters-long (suc n) l = ap suc (meters-long n (drop 25 l))
 
 -- the meter at a place i
-meters-at : (n i : ℕ) (l : List ℕ) (d : PlainMeter) → i < n → getD (meters n l) i d ≡ metered (block (25 * i) 25 l)
+meters-at : (n i : ℕ) (l : List ℕ) (d : PlainMeter) → i < n → getD (meters n l) i d ≡ decodeMeter (block (25 * i) 25 l)
 unfolding meters
 meters-at zero i l d h = absurd (omega arith)
 meters-at (suc n) zero l d h = refl
-meters-at (suc n) (suc i) l d h = meters-at n i (drop 25 l) d (omega arith) ∙ ap (λ x. metered (take 25 x)) (drop-drop (25 * i) 25 l ∙ ap (λ k. drop k l) (sym (next i)))
+meters-at (suc n) (suc i) l d h = meters-at n i (drop 25 l) d (omega arith) ∙ ap (λ x. decodeMeter (take 25 x)) (drop-drop (25 * i) 25 l ∙ ap (λ k. drop k l) (sym (next i)))
 
 module _ (b : List ℕ) (w : length b ≡ 25) where
   -- bytes put at a place i
-  meters-put : (n i : ℕ) (l : List ℕ) → 25 * i + 25 ≤ length l → meters n (paste l (25 * i) b 25) ≡ set (meters n l) i (metered b)
+  meters-put : (n i : ℕ) (l : List ℕ) → 25 * i + 25 ≤ length l → meters n (paste l (25 * i) b 25) ≡ set (meters n l) i (decodeMeter b)
   unfolding meters
   meters-put zero i l h = refl
   meters-put (suc n) zero l h =
-      ap (λ x. metered (take 25 x) ∷ meters n (drop 25 x)) (paste-front l b w)
-      ∙ ap₂ (λ x y. metered x ∷ meters n y) (take-at b (drop 25 l) 25 w) (drop-at b (drop 25 l) 25 w)
+      ap (λ x. decodeMeter (take 25 x) ∷ meters n (drop 25 x)) (paste-front l b w)
+      ∙ ap₂ (λ x y. decodeMeter x ∷ meters n y) (take-at b (drop 25 l) 25 w) (drop-at b (drop 25 l) 25 w)
   meters-put (suc n) (suc i) l h =
       let m : 25 * i + 25 ≤ length (drop 25 l) = rw length-drop (omega arith) in
-      ap₂ (λ x y. metered x ∷ meters n y) (paste-before l (25 * suc i) b 25 h 25 (omega arith))
+      ap₂ (λ x y. decodeMeter x ∷ meters n y) (paste-before l (25 * suc i) b 25 h 25 (omega arith))
       (ap (λ k. drop 25 (paste l k b 25)) (next i) ∙ paste-after b 25 25 (25 * i) l (omega arith))
-      ∙ ap (λ r. metered (take 25 l) ∷ r) (meters-put n i (drop 25 l) m)
+      ∙ ap (λ r. decodeMeter (take 25 l) ∷ r) (meters-put n i (drop 25 l) m)
 
 -- the bytes of one of some meters replaced
 rows-put : (m : PlainMeter) (ms : List PlainMeter) (i : ℕ) (z : List ℕ) → i < length ms
-    → paste (each ms meterBytes ++ z) (25 * i) (meterBytes m) 25 ≡ each (set ms i m) meterBytes ++ z
+    → paste (each ms encodeMeter ++ z) (25 * i) (encodeMeter m) 25 ≡ each (set ms i m) encodeMeter ++ z
 rows-put m [] i z h = absurd (omega arith)
 rows-put m (x ∷ xs) zero z h =
-    let r = each xs meterBytes in
-    paste-front (meterBytes x ++ r ++ z) (meterBytes m) (meter-long m)
-    ∙ ap (λ y. meterBytes m ++ drop 25 y) (append-assoc (meterBytes x) r z)
-    ∙ ap (λ y. meterBytes m ++ y) (drop-at (meterBytes x) (r ++ z) 25 (meter-long x))
-    ∙ sym (append-assoc (meterBytes m) r z)
+    let r = each xs encodeMeter in
+    paste-front (encodeMeter x ++ r ++ z) (encodeMeter m) (meter-long m)
+    ∙ ap (λ y. encodeMeter m ++ drop 25 y) (append-assoc (encodeMeter x) r z)
+    ∙ ap (λ y. encodeMeter m ++ y) (drop-at (encodeMeter x) (r ++ z) 25 (meter-long x))
+    ∙ sym (append-assoc (encodeMeter m) r z)
 rows-put m (x ∷ xs) (suc i) z h =
-    let r = each xs meterBytes in
-    ap₂ (λ y k. paste y k (meterBytes m) 25) (append-assoc (meterBytes x) r z) (next i)
-    ∙ paste-behind (meterBytes m) 25 (meterBytes x) (r ++ z) 25 (25 * i) (meter-long x)
-    ∙ ap (λ y. meterBytes x ++ y) (rows-put m xs i z (omega arith))
-    ∙ sym (append-assoc (meterBytes x) (each (set xs i m) meterBytes) z)
+    let r = each xs encodeMeter in
+    ap₂ (λ y k. paste y k (encodeMeter m) 25) (append-assoc (encodeMeter x) r z) (next i)
+    ∙ paste-behind (encodeMeter m) 25 (encodeMeter x) (r ++ z) 25 (25 * i) (meter-long x)
+    ∙ ap (λ y. encodeMeter x ++ y) (rows-put m xs i z (omega arith))
+    ∙ sym (append-assoc (encodeMeter x) (each (set xs i m) encodeMeter) z)
 
 -- ---- images
 
 -- what an image means, by its parts
-pub imaged-by : (s : Plain) (l : List ℕ) → number 4 0 l ≡ s .baud → ofBits binary64 (number 8 4 l) ≡ s .origin
+pub decodeImage-by : (s : Plain) (l : List ℕ) → number 4 0 l ≡ s .baud → ofBits binary64 (number 8 4 l) ≡ s .origin
     → block 18 (min (number 2 14 l) 260) l ≡ s .input
     → block 278 (min (number 2 16 l) 4096) l ≡ s .queue
     → meters (min (number 2 12 l) capacity) (drop 4374 l) ≡ s .meters
-    → imaged l ≡ s
-unfolding imaged
-imaged-by s l b o i q m = rw (b, o, i, q, m)
+    → decodeImage l ≡ s
+unfolding decodeImage
+decodeImage-by s l b o i q m = rw (b, o, i, q, m)
 
 -- numbers in front that two lists have in common
 number-same : (n p k : ℕ) (l m : List ℕ) → take k l ≡ take k m → p + n ≤ k → number n p l ≡ number n p m
@@ -149,74 +149,74 @@ front-long s count i q =
     ∙ omega (arith, length-append h (filled 260 (s .input)), head-long (s .baud) (s .origin) count (length (s .input)) (length (s .queue)), length-filled 260 (s .input) i, length-filled 4096 (s .queue) q)
 
 module _ (l : List ℕ) where
-  pub input-short : length (imaged l .input) ≤ 260
-  unfolding imaged
+  pub input-short : length (decodeImage l .input) ≤ 260
+  unfolding decodeImage
   input-short = rw length-take (omega arith)
 
-  pub queue-short : length (imaged l .queue) ≤ 4096
-  unfolding imaged
+  pub queue-short : length (decodeImage l .queue) ≤ 4096
+  unfolding decodeImage
   queue-short = rw length-take (omega arith)
 
-  pub input-count : length l ≡ 5974 → length (imaged l .input) ≡ min (number 2 14 l) 260
-  unfolding imaged
+  pub input-count : length l ≡ 5974 → length (decodeImage l .input) ≡ min (number 2 14 l) 260
+  unfolding decodeImage
   input-count h = length-take (min (number 2 14 l) 260) (drop 18 l) ∙ omega (arith, length-drop 18 l)
 
-  pub queue-count : length l ≡ 5974 → length (imaged l .queue) ≡ min (number 2 16 l) 4096
-  unfolding imaged
+  pub queue-count : length l ≡ 5974 → length (decodeImage l .queue) ≡ min (number 2 16 l) 4096
+  unfolding decodeImage
   queue-count h = length-take (min (number 2 16 l) 4096) (drop 278 l) ∙ omega (arith, length-drop 278 l)
 
-  pub meters-count : length (imaged l .meters) ≡ min (number 2 12 l) capacity
-  unfolding imaged
+  pub meters-count : length (decodeImage l .meters) ≡ min (number 2 12 l) capacity
+  unfolding decodeImage
   meters-count = meters-long (min (number 2 12 l) capacity) (drop 4374 l)
 
   -- the meter at a place i
-  pub meter-at : (i : ℕ) (d : PlainMeter) → i < length (imaged l .meters) → getD (imaged l .meters) i d ≡ meterIn i l
-  unfolding imaged
+  pub meter-at : (i : ℕ) (d : PlainMeter) → i < length (decodeImage l .meters) → getD (decodeImage l .meters) i d ≡ meterIn i l
+  unfolding decodeImage
   meter-at i d h =
       meters-at (min (number 2 12 l) capacity) i (drop 4374 l) d (omega (arith, meters-count))
-      ∙ ap (λ x. metered (take 25 x)) (drop-drop (25 * i) 4374 l)
+      ∙ ap (λ x. decodeMeter (take 25 x)) (drop-drop (25 * i) 4374 l)
 
-  pub meters-few : length (imaged l .meters) ≤ 64
+  pub meters-few : length (decodeImage l .meters) ≤ 64
   unfolding capacity
   meters-few = omega (arith, meters-count)
 
-  module _ (long : length l ≡ 4374 + 25 * capacity) (i : ℕ) (m : PlainMeter) (h : i < length (imaged l .meters)) where
+  module _ (long : length l ≡ 4374 + 25 * capacity) (i : ℕ) (m : PlainMeter) (h : i < length (decodeImage l .meters)) where
     abbrev new : List ℕ
-    new = paste l (4374 + 25 * i) (meterBytes m) 25
+    new = paste l (4374 + 25 * i) (encodeMeter m) 25
 
     room : 4374 + 25 * i + 25 ≤ length l
     room = omega (arith, meters-count)
 
     front : take 4374 new ≡ take 4374 l
-    front = paste-before l (4374 + 25 * i) (meterBytes m) 25 room 4374 (omega arith)
+    front = paste-before l (4374 + 25 * i) (encodeMeter m) 25 room 4374 (omega arith)
 
     new-long : length new ≡ length l
-    new-long = length-paste l (4374 + 25 * i) (meterBytes m) 25 room (omega (arith, meter-long m))
+    new-long = length-paste l (4374 + 25 * i) (encodeMeter m) 25 room (omega (arith, meter-long m))
 
-    put-means : metered (meterBytes m) ≡ m → imaged new ≡ withMeters (set (imaged l .meters) i m) (imaged l)
-    unfolding imaged
+    put-means : decodeMeter (encodeMeter m) ≡ m → decodeImage new ≡ withMeters (set (decodeImage l .meters) i m) (decodeImage l)
+    unfolding decodeImage
     put-means back =
         let same : (n p : ℕ) → p + n ≤ 4374 → number n p new ≡ number n p l = λ n p e. number-same n p 4374 new l front e in
-        imaged-by _ new (same 4 0 (omega arith)) (ap (ofBits binary64) (same 8 4 (omega arith)))
+        decodeImage-by _ new (same 4 0 (omega arith)) (ap (ofBits binary64) (same 8 4 (omega arith)))
         (ap (λ n. block 18 (min n 260) new) (same 2 14 (omega arith)) ∙ block-same 18 (min (number 2 14 l) 260) 4374 new l front (omega arith) (omega (arith, new-long, room)) (omega (arith, room)))
         (ap (λ n. block 278 (min n 4096) new) (same 2 16 (omega arith)) ∙ block-same 278 (min (number 2 16 l) 4096) 4374 new l front (omega arith) (omega (arith, new-long, room)) (omega (arith, room)))
         (ap (λ n. meters (min n capacity) (drop 4374 new)) (same 2 12 (omega arith))
-        ∙ ap (meters (min (number 2 12 l) capacity)) (paste-after (meterBytes m) 25 4374 (25 * i) l (omega (arith, room)))
-        ∙ meters-put (meterBytes m) (meter-long m) (min (number 2 12 l) capacity) i (drop 4374 l) (rw length-drop (omega (arith, room)))
+        ∙ ap (meters (min (number 2 12 l) capacity)) (paste-after (encodeMeter m) 25 4374 (25 * i) l (omega (arith, room)))
+        ∙ meters-put (encodeMeter m) (meter-long m) (min (number 2 12 l) capacity) i (drop 4374 l) (rw length-drop (omega (arith, room)))
         ∙ ap (set (meters (min (number 2 12 l) capacity) (drop 4374 l)) i) back)
 
-    put-exact : l ≡ imageOf (imaged l) → new ≡ imageOf (withMeters (set (imaged l .meters) i m) (imaged l))
-    unfolding imageOf
+    put-exact : l ≡ encodeImage (decodeImage l) → new ≡ encodeImage (withMeters (set (decodeImage l .meters) i m) (decodeImage l))
+    unfolding encodeImage
     put-exact e =
-        let s = imaged l in
+        let s = decodeImage l in
         let ms = s .meters in
         let z : ℕ → List ℕ = λ k. replicate (25 * capacity - k) 0 in
-        let wide : (xs : List PlainMeter) → length (each xs meterBytes) ≡ 25 * length xs = length-rows meterBytes 25 meter-long in
+        let wide : (xs : List PlainMeter) → length (each xs encodeMeter) ≡ 25 * length xs = length-rows encodeMeter 25 meter-long in
         let same : length ms ≡ length (set ms i m) = sym (length-set ms i m) in
-        ap (λ x. paste x (4374 + 25 * i) (meterBytes m) 25) e
-        ∙ paste-behind (meterBytes m) 25 (inFront s (length ms)) _ 4374 (25 * i) (front-long s (length ms) input-short queue-short)
-        ∙ ap (λ x. inFront s (length ms) ++ x) (rows-put m ms i (z (length (each ms meterBytes))) h)
-        ∙ ap₂ (λ c k. inFront s c ++ (each (set ms i m) meterBytes ++ z k)) same (wide ms ∙ ap (λ k. 25 * k) same ∙ sym (wide (set ms i m)))
+        ap (λ x. paste x (4374 + 25 * i) (encodeMeter m) 25) e
+        ∙ paste-behind (encodeMeter m) 25 (inFront s (length ms)) _ 4374 (25 * i) (front-long s (length ms) input-short queue-short)
+        ∙ ap (λ x. inFront s (length ms) ++ x) (rows-put m ms i (z (length (each ms encodeMeter))) h)
+        ∙ ap₂ (λ c k. inFront s c ++ (each (set ms i m) encodeMeter ++ z k)) same (wide ms ∙ ap (λ k. 25 * k) same ∙ sym (wide (set ms i m)))
 
-    pub meter-becomes : metered (meterBytes m) ≡ m → Becomes l (withMeters (set (imaged l .meters) i m) (imaged l)) new
+    pub meter-becomes : decodeMeter (encodeMeter m) ≡ m → Becomes l (withMeters (set (decodeImage l .meters) i m) (decodeImage l)) new
     meter-becomes back = record { long = new-long; means = put-means back; exact = put-exact }

@@ -8,13 +8,13 @@ use native.Mathlib.Omega.{arith}
 use lib.ListN.{length, take, drop, replicate, length-append, length-replicate}
 use lib.Seq.{paste, length-paste, take-paste, take-all, take-at}
 use Rattle.laws.proofs.Copy.{take-min}
-use Rattle.values.specs.Values.{little}
+use Rattle.numbers.specs.Values.{little}
 use Rattle.numbers.specs.Number.{number}
 use Rattle.numbers.proofs.NumberLaws.{number-little}
-use Rattle.bus.specs.Plain.{withInput, withQueue}
-use Rattle.image.specs.Image.{imaged, filled, imageOf}
-use Rattle.image.proofs.Filled.{length-filled, drop-zeros, paste-whole}
-use Rattle.segment_places.specs.Becomes.{Becomes, Queues}
+use Rattle.segment.specs.Plain.{withInput, withQueue}
+use Rattle.segment_image.specs.Image.{decodeImage, filled, encodeImage}
+use Rattle.segment_image.proofs.Filled.{length-filled, drop-zeros, paste-whole}
+use Rattle.segment_places.specs.ProgramBecomes.{Becomes, Queues}
 use Rattle.segment_places.proofs.PlaceLaws.{paste-behind, input-short, queue-short, queue-count}
 use Rattle.segment_places.proofs.PartLaws.{whole, Parts, headOf, metersOf, parts-mean, put-waiting, put-queued, put-input, put-queue, parts-are, parts-long, queued-at, image-parts, image-parts-long, little-two}
 
@@ -57,7 +57,7 @@ fill-more k a b h =
 
 -- ---- the queue
 
-module _ (l b : List ℕ) (q n : ℕ) (long : length l ≡ 5974) (is : q ≡ length (imaged l .queue)) (w : length b ≡ n) (fits : q + n ≤ 4096) where
+module _ (l b : List ℕ) (q n : ℕ) (long : length l ≡ 5974) (is : q ≡ length (decodeImage l .queue)) (w : length b ≡ n) (fits : q + n ≤ 4096) where
   abbrev queued : List ℕ → List ℕ
   queued x = paste (paste x (278 + q) b n) 16 (little 2 (q + n)) 2
 
@@ -72,7 +72,7 @@ module _ (l b : List ℕ) (q n : ℕ) (long : length l ≡ 5974) (is : q ≡ len
       let a : length (paste l (278 + q) b n) ≡ length l = length-paste l (278 + q) b n (omega arith) (omega arith) in
       length-paste (paste l (278 + q) b n) 16 (little 2 (q + n)) 2 (omega arith) (omega (arith, little-two (q + n))) ∙ a
 
-  queued-means : imaged (queued l) ≡ withQueue (imaged l .queue ++ b) (imaged l)
+  queued-means : decodeImage (queued l) ≡ withQueue (decodeImage l .queue ++ b) (decodeImage l)
   queued-means =
       let k = parts-long l long in
       let qs = take 4096 (drop 278 l) in
@@ -80,18 +80,18 @@ module _ (l b : List ℕ) (q n : ℕ) (long : length l ≡ 5974) (is : q ≡ len
       let x = take 2 (drop 16 l) in
       let m = parts-mean (drop 4374 l) k in
       let k′ : Parts (take 14 l) (take 2 (drop 14 l)) (little 2 (q + n)) (take 260 (drop 18 l)) new = other-queue k (little-two (q + n)) (length-paste qs q b n (omega (arith, k .queue-long)) (omega arith) ∙ k .queue-long) in
-      let before : take q qs ≡ imaged l .queue = ap (λ j. take j qs) (is ∙ queue-count l long ∙ ap (λ j. min j 4096) (queued-at l long)) ∙ sym (ap (λ t. imaged t .queue) (parts-are l) ∙ ap (λ t. t .queue) m) in
+      let before : take q qs ≡ decodeImage l .queue = ap (λ j. take j qs) (is ∙ queue-count l long ∙ ap (λ j. min j 4096) (queued-at l long)) ∙ sym (ap (λ t. decodeImage t .queue) (parts-are l) ∙ ap (λ t. t .queue) m) in
       let back : min (number 2 0 (little 2 (q + n))) 4096 ≡ q + n = ap (λ j. min j 4096) (number-little 2 (q + n) (omega arith)) ∙ omega arith in
-      let now : take (min (number 2 0 (little 2 (q + n))) 4096) new ≡ imaged l .queue ++ b =
+      let now : take (min (number 2 0 (little 2 (q + n))) 4096) new ≡ decodeImage l .queue ++ b =
       ap (λ j. take j new) back ∙ take-paste qs q b n (omega (arith, k .queue-long)) (omega arith) ∙ ap₂ (λ u v. u ++ v) before (take-all n b (omega arith)) in
-      ap (λ t. imaged (queued t)) (parts-are l)
-      ∙ ap imaged (queued-parts _ _ _ _ _ (drop 4374 l) k)
+      ap (λ t. decodeImage (queued t)) (parts-are l)
+      ∙ ap decodeImage (queued-parts _ _ _ _ _ (drop 4374 l) k)
       ∙ parts-mean (drop 4374 l) k′
-      ∙ ap₂ (λ u t. withQueue u t) now (sym m ∙ ap imaged (sym (parts-are l)))
+      ∙ ap₂ (λ u t. withQueue u t) now (sym m ∙ ap decodeImage (sym (parts-are l)))
 
-  queued-exact : l ≡ imageOf (imaged l) → queued l ≡ imageOf (withQueue (imaged l .queue ++ b) (imaged l))
+  queued-exact : l ≡ encodeImage (decodeImage l) → queued l ≡ encodeImage (withQueue (decodeImage l .queue ++ b) (decodeImage l))
   queued-exact e =
-      let s = imaged l in
+      let s = decodeImage l in
       let c : q ≡ length (s .queue) = is in
       let k = image-parts-long s (input-short l) (queue-short l) in
       ap queued (e ∙ image-parts s)
@@ -100,14 +100,14 @@ module _ (l b : List ℕ) (q n : ℕ) (long : length l ≡ 5974) (is : q ≡ len
       (ap₂ (λ u v. paste (filled 4096 (s .queue)) u b v) c (sym w) ∙ fill-more 4096 (s .queue) b (omega arith))
       ∙ sym (image-parts (withQueue (s .queue ++ b) s))
 
-  pub queue-becomes : Becomes l (withQueue (imaged l .queue ++ b) (imaged l)) (queued l)
+  pub queue-becomes : Becomes l (withQueue (decodeImage l .queue ++ b) (decodeImage l)) (queued l)
   queue-becomes = record { long = queued-long; means = queued-means; exact = queued-exact }
 
 -- or there is no room for them
-pub queues-not : {more old : List ℕ} → 4096 < length (imaged old .queue) + length more → Queues more old false old
+pub queues-not : {more old : List ℕ} → 4096 < length (decodeImage old .queue) + length more → Queues more old false old
 queues-not h = record { done = λ e. never e; full = λ e. h; stays = λ e. refl }
 
-pub queues : {more old new : List ℕ} → Becomes old (withQueue (imaged old .queue ++ more) (imaged old)) new → Queues more old true new
+pub queues : {more old new : List ℕ} → Becomes old (withQueue (decodeImage old .queue ++ more) (decodeImage old)) new → Queues more old true new
 queues b = record { done = λ e. b; full = λ e. never (sym e); stays = λ e. never (sym e) }
 
 -- ---- the input
@@ -137,25 +137,25 @@ module _ (l r : List ℕ) (n : ℕ) (long : length l ≡ 5974) (w : length r ≡
       let c : length (paste (paste l 18 (zeros 260) 260) 18 r n) ≡ length (paste l 18 (zeros 260) 260) = length-paste (paste l 18 (zeros 260) 260) 18 r n (omega arith) (omega arith) in
       length-paste (paste (paste l 18 (zeros 260) 260) 18 r n) 14 (little 2 n) 2 (omega arith) (omega (arith, little-two n)) ∙ c ∙ a
 
-  waits-means : imaged (waits l) ≡ withInput r (imaged l)
+  waits-means : decodeImage (waits l) ≡ withInput r (decodeImage l)
   waits-means =
       let k = parts-long l long in
       let m = parts-mean (drop 4374 l) k in
       let k′ : Parts (take 14 l) (little 2 n) (take 2 (drop 16 l)) (filled 260 r) (take 4096 (drop 278 l)) = other-input k (little-two n) (length-filled 260 r (omega arith)) in
       let back : min (number 2 0 (little 2 n)) 260 ≡ n = ap (λ j. min j 260) (number-little 2 n (omega arith)) ∙ omega arith in
       let now : take (min (number 2 0 (little 2 n)) 260) (filled 260 r) ≡ r = ap (λ j. take j (filled 260 r)) back ∙ take-at r _ n w in
-      ap (λ t. imaged (waits t)) (parts-are l)
-      ∙ ap imaged (waits-parts _ _ _ _ _ (drop 4374 l) k)
+      ap (λ t. decodeImage (waits t)) (parts-are l)
+      ∙ ap decodeImage (waits-parts _ _ _ _ _ (drop 4374 l) k)
       ∙ parts-mean (drop 4374 l) k′
-      ∙ ap₂ (λ u t. withInput u t) now (sym m ∙ ap imaged (sym (parts-are l)))
+      ∙ ap₂ (λ u t. withInput u t) now (sym m ∙ ap decodeImage (sym (parts-are l)))
 
-  waits-exact : l ≡ imageOf (imaged l) → waits l ≡ imageOf (withInput r (imaged l))
+  waits-exact : l ≡ encodeImage (decodeImage l) → waits l ≡ encodeImage (withInput r (decodeImage l))
   waits-exact e =
-      let s = imaged l in
+      let s = decodeImage l in
       ap waits (e ∙ image-parts s)
       ∙ waits-parts _ _ _ _ _ _ (image-parts-long s (input-short l) (queue-short l))
       ∙ ap (λ u. whole (headOf s) (little 2 u) (little 2 (length (s .queue))) (filled 260 r) (filled 4096 (s .queue)) (metersOf s)) (sym w)
       ∙ sym (image-parts (withInput r s))
 
-  pub input-becomes : Becomes l (withInput r (imaged l)) (waits l)
+  pub input-becomes : Becomes l (withInput r (decodeImage l)) (waits l)
   input-becomes = record { long = waits-long; means = waits-means; exact = waits-exact }

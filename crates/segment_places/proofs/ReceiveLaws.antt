@@ -6,15 +6,15 @@ use native.Mathlib.Nat.{zero-add}
 use native.Mathlib.Omega.{arith}
 use lib.ListN.{length, take, drop, replicate, length-drop, length-replicate, replicate-append-replicate}
 use lib.Seq.{paste, length-paste, take-paste, drop-paste, take-all, take-at, drop-at, drop-drop, drop-append-le, take-append-le, take-take, take-length}
-use Rattle.values.specs.Values.{little}
+use Rattle.numbers.specs.Values.{little}
 use Rattle.laws.proofs.Copy.{drop-take}
 use Rattle.numbers.specs.Number.{number}
 use Rattle.numbers.proofs.NumberLaws.{number-little}
-use Rattle.bus.specs.Plain.{withQueue}
-use Rattle.image.specs.Image.{imaged, filled, imageOf}
-use Rattle.image.proofs.Blocks.{paste-before}
-use Rattle.image.proofs.Filled.{length-filled}
-use Rattle.segment_places.specs.Becomes.{Becomes}
+use Rattle.segment.specs.Plain.{withQueue}
+use Rattle.segment_image.specs.Image.{decodeImage, filled, encodeImage}
+use Rattle.segment_image.proofs.Blocks.{paste-before}
+use Rattle.segment_image.proofs.Filled.{length-filled}
+use Rattle.segment_places.specs.ProgramBecomes.{Becomes}
 use Rattle.segment_places.proofs.PlaceLaws.{input-short, queue-short, queue-count}
 use Rattle.segment_places.proofs.PartLaws.{whole, Parts, headOf, metersOf, parts-mean, put-queued, put-queue, parts-are, parts-long, queued-at, image-parts, image-parts-long, little-two, from-278}
 use Rattle.segment_places.proofs.QueueLaws.{zeros, other-queue}
@@ -24,33 +24,33 @@ module _ (l : List ℕ) (long : length l ≡ 5974) (change f : List ℕ → List
     (still : length (change l) ≡ length l)
     (over : (h v x i qs ms : List ℕ) → Parts h v x i qs → change (whole h v x i qs ms) ≡ whole h v (little 2 m) i (f qs) ms)
     (f-long : (qs : List ℕ) → length qs ≡ 4096 → length (f qs) ≡ 4096)
-    (first : (qs : List ℕ) → length qs ≡ 4096 → take (length (imaged l .queue)) qs ≡ imaged l .queue → take m (f qs) ≡ new)
-    (clean : f (filled 4096 (imaged l .queue)) ≡ filled 4096 new)
+    (first : (qs : List ℕ) → length qs ≡ 4096 → take (length (decodeImage l .queue)) qs ≡ decodeImage l .queue → take m (f qs) ≡ new)
+    (clean : f (filled 4096 (decodeImage l .queue)) ≡ filled 4096 new)
     (is : m ≡ length new)
     (few : m ≤ 4096) where
-  requeue-means : imaged (change l) ≡ withQueue new (imaged l)
+  requeue-means : decodeImage (change l) ≡ withQueue new (decodeImage l)
   requeue-means =
       let k = parts-long l long in
       let qs = take 4096 (drop 278 l) in
       let p = parts-mean (drop 4374 l) k in
       let k′ : Parts (take 14 l) (take 2 (drop 14 l)) (little 2 m) (take 260 (drop 18 l)) (f qs) = other-queue k (little-two m) (f-long qs (k .queue-long)) in
-      let before : take (length (imaged l .queue)) qs ≡ imaged l .queue =
-      ap (λ j. take j qs) (queue-count l long ∙ ap (λ j. min j 4096) (queued-at l long)) ∙ sym (ap (λ t. imaged t .queue) (parts-are l) ∙ ap (λ t. t .queue) p) in
+      let before : take (length (decodeImage l .queue)) qs ≡ decodeImage l .queue =
+      ap (λ j. take j qs) (queue-count l long ∙ ap (λ j. min j 4096) (queued-at l long)) ∙ sym (ap (λ t. decodeImage t .queue) (parts-are l) ∙ ap (λ t. t .queue) p) in
       let back : min (number 2 0 (little 2 m)) 4096 ≡ m = ap (λ j. min j 4096) (number-little 2 m (omega arith)) ∙ omega arith in
-      ap (λ t. imaged (change t)) (parts-are l)
-      ∙ ap imaged (over _ _ _ _ _ (drop 4374 l) k)
+      ap (λ t. decodeImage (change t)) (parts-are l)
+      ∙ ap decodeImage (over _ _ _ _ _ (drop 4374 l) k)
       ∙ parts-mean (drop 4374 l) k′
-      ∙ ap₂ (λ u t. withQueue u t) (ap (λ j. take j (f qs)) back ∙ first qs (k .queue-long) before) (sym p ∙ ap imaged (sym (parts-are l)))
+      ∙ ap₂ (λ u t. withQueue u t) (ap (λ j. take j (f qs)) back ∙ first qs (k .queue-long) before) (sym p ∙ ap decodeImage (sym (parts-are l)))
 
-  requeue-exact : l ≡ imageOf (imaged l) → change l ≡ imageOf (withQueue new (imaged l))
+  requeue-exact : l ≡ encodeImage (decodeImage l) → change l ≡ encodeImage (withQueue new (decodeImage l))
   requeue-exact e =
-      let s = imaged l in
+      let s = decodeImage l in
       ap change (e ∙ image-parts s)
       ∙ over _ _ _ _ _ _ (image-parts-long s (input-short l) (queue-short l))
       ∙ ap₂ (λ u v. whole (headOf s) (little 2 (length (s .input))) u (filled 260 (s .input)) v (metersOf s)) (ap (little 2) is) clean
       ∙ sym (image-parts (withQueue new s))
 
-  requeue : Becomes l (withQueue new (imaged l)) (change l)
+  requeue : Becomes l (withQueue new (decodeImage l)) (change l)
   requeue = record { long = still; means = requeue-means; exact = requeue-exact }
 
 zeros-long : (n : ℕ) → length (zeros n) ≡ n
@@ -61,7 +61,7 @@ zeros-add a b c e = replicate-append-replicate a b 0 ∙ ap zeros e
 
 -- ---- clear
 
-module _ (l : List ℕ) (long : length l ≡ 5974) (q : ℕ) (is : q ≡ length (imaged l .queue)) where
+module _ (l : List ℕ) (long : length l ≡ 5974) (q : ℕ) (is : q ≡ length (decodeImage l .queue)) where
   few : q ≤ 4096
   few = omega (arith, queue-short l)
 
@@ -81,19 +81,19 @@ module _ (l : List ℕ) (long : length l ≡ 5974) (q : ℕ) (is : q ≡ length 
       let k′ : Parts h v x i (paste qs 0 (zeros q) q) = other-queue k (k .queued-long) (blank-long qs (k .queue-long)) in
       ap (λ y. paste y 16 (little 2 0) 2) (put-queue ms k (zeros q) q 0 (omega (arith, few))) ∙ put-queued ms k′ (little 2 0) (little-two 0)
 
-  cleared-clean : paste (filled 4096 (imaged l .queue)) 0 (zeros q) q ≡ filled 4096 []
+  cleared-clean : paste (filled 4096 (decodeImage l .queue)) 0 (zeros q) q ≡ filled 4096 []
   cleared-clean =
-      let qs = imaged l .queue in
+      let qs = decodeImage l .queue in
       ap₂ (λ x y. x ++ y) (take-all q (zeros q) (omega (arith, zeros-long q)))
       (ap (λ j. drop j (filled 4096 qs)) (zero-add q) ∙ drop-at qs (zeros (4096 - length qs)) q (sym is))
       ∙ zeros-add q (4096 - length qs) 4096 (omega (arith, queue-short l))
 
-  pub clear-becomes : Becomes l (withQueue [] (imaged l)) (cleared l)
+  pub clear-becomes : Becomes l (withQueue [] (decodeImage l)) (cleared l)
   clear-becomes = requeue l long cleared (λ qs. paste qs 0 (zeros q) q) 0 [] cleared-long cleared-over blank-long (λ qs e f. refl) cleared-clean refl (omega arith)
 
 -- ---- the first bytes handed out
 
-module _ (l : List ℕ) (long : length l ≡ 5974) (q n : ℕ) (is : q ≡ length (imaged l .queue)) (within : n ≤ q) where
+module _ (l : List ℕ) (long : length l ≡ 5974) (q n : ℕ) (is : q ≡ length (decodeImage l .queue)) (within : n ≤ q) where
   most : q ≤ 4096
   most = omega (arith, queue-short l)
 
@@ -125,7 +125,7 @@ module _ (l : List ℕ) (long : length l ≡ 5974) (q n : ℕ) (is : q ≡ lengt
     blanked-long : length (blanked qs) ≡ 4096
     blanked-long = length-paste (moved qs) (q - n) (zeros n) n (omega (arith, moved-long, most)) (omega (arith, zeros-long n)) ∙ moved-long
 
-    moved-first : take q qs ≡ imaged l .queue → take (q - n) (moved qs) ≡ drop n (imaged l .queue)
+    moved-first : take q qs ≡ decodeImage l .queue → take (q - n) (moved qs) ≡ drop n (decodeImage l .queue)
     moved-first f =
         let a : q - n ≡ 0 + (q - n) = omega arith in
         let b : n + (q - n) ≡ q = omega arith in
@@ -135,7 +135,7 @@ module _ (l : List ℕ) (long : length l ≡ 5974) (q n : ℕ) (is : q ≡ lengt
         ∙ ap (λ j. drop n (take j qs)) b
         ∙ ap (drop n) f
 
-    blanked-first : take (length (imaged l .queue)) qs ≡ imaged l .queue → take (q - n) (blanked qs) ≡ drop n (imaged l .queue)
+    blanked-first : take (length (decodeImage l .queue)) qs ≡ decodeImage l .queue → take (q - n) (blanked qs) ≡ drop n (decodeImage l .queue)
     blanked-first f =
         paste-before (moved qs) (q - n) (zeros n) n (omega (arith, moved-long, most)) (q - n) (omega arith) ∙ moved-first (ap (λ j. take j qs) is ∙ f)
 
@@ -162,9 +162,9 @@ module _ (l : List ℕ) (long : length l ≡ 5974) (q n : ℕ) (is : q ≡ lengt
       ∙ ap (λ y. paste y 16 (little 2 (q - n)) 2) (put-queue ms k₁ (zeros n) n (q - n) (omega (arith, most)))
       ∙ put-queued ms k₂ (little 2 (q - n)) (little-two (q - n))
 
-  shorter-clean : blanked (filled 4096 (imaged l .queue)) ≡ filled 4096 (drop n (imaged l .queue))
+  shorter-clean : blanked (filled 4096 (decodeImage l .queue)) ≡ filled 4096 (drop n (decodeImage l .queue))
   shorter-clean =
-      let s = imaged l .queue in
+      let s = decodeImage l .queue in
       let qs = filled 4096 s in
       let e : length qs ≡ 4096 = length-filled 4096 s (queue-short l) in
       let d : 4096 - length (drop n s) ≡ n + (4096 - length s) = rw length-drop (omega (arith, queue-short l)) in
@@ -173,14 +173,14 @@ module _ (l : List ℕ) (long : length l ≡ 5974) (q n : ℕ) (is : q ≡ lengt
       ∙ append-assoc (drop n s) (zeros n) (zeros (4096 - length s))
       ∙ ap (λ y. drop n s ++ y) (zeros-add n (4096 - length s) (4096 - length (drop n s)) (sym d))
 
-  pub take-becomes : Becomes l (withQueue (drop n (imaged l .queue)) (imaged l)) (shorter l)
+  pub take-becomes : Becomes l (withQueue (drop n (decodeImage l .queue)) (decodeImage l)) (shorter l)
   take-becomes =
-      requeue l long shorter blanked (q - n) (drop n (imaged l .queue)) shorter-long shorter-over blanked-long blanked-first shorter-clean
+      requeue l long shorter blanked (q - n) (drop n (decodeImage l .queue)) shorter-long shorter-over blanked-long blanked-first shorter-clean
       (rw length-drop (omega arith)) (omega (arith, most))
 
 -- the bytes handed out, as a part of the image
-pub out-is : (l : List ℕ) (n : ℕ) → length l ≡ 5974 → n ≤ length (imaged l .queue) → take (278 + n - 278) (drop 278 l) ≡ take n (imaged l .queue)
-unfolding imaged
+pub out-is : (l : List ℕ) (n : ℕ) → length l ≡ 5974 → n ≤ length (decodeImage l .queue) → take (278 + n - 278) (drop 278 l) ≡ take n (decodeImage l .queue)
+unfolding decodeImage
 out-is l n long h =
     let d : 278 + n - 278 ≡ n = omega arith in
     ap (λ k. take k (drop 278 l)) d ∙ sym (take-take n (min (number 2 16 l) 4096) (drop 278 l) (omega (arith, queue-count l long)))

@@ -1,1 +1,1 @@
-pub mod Becomes
+pub mod ProgramBecomes

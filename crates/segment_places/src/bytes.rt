@@ -3,9 +3,9 @@ ghost use mathlib.Core.Path.{_≡_};
 ghost use Prim.Native.Nat.{_+_, _≤_};
 ghost use lib.ListN.{length, replicate};
 ghost use lib.Seq.{paste};
-ghost use Rattle.values.specs.Values.{little};
+ghost use Rattle.numbers.specs.Values.{little};
 ghost use Rattle.numbers.specs.Number.{number};
-use image::IMAGE;
+use segment_image::IMAGE;
 
 // Some bytes over those from p on.
 pub(crate) fn put(image: &mut [u8], p: usize, bytes: &[u8])
@@ -51,6 +51,6 @@ pub(crate) fn put_two(image: &mut [u8; IMAGE], p: usize, n: usize)
     requires { ⌜ p + 2 ≤ 5974 ⌝ }
     ensures { λ _. ⌜ now (image .exit) ≡ paste (now (image .entry)) p (little 2 n) 2 ⌝ }
 {
-    let b = values::le2(n as u64);
+    let b = numbers::le2(n as u64);
     put(image, p, &b)
 }

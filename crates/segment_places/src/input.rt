@@ -3,16 +3,16 @@ ghost use mathlib.Core.Path.{_≡_};
 ghost use mathlib.Core.List.{[], _++_};
 ghost use Prim.Native.Nat.{_+_, _≤_, min};
 ghost use lib.ListN.{length, take, replicate};
-ghost use Rattle.bus.specs.Plain.{withInput};
-ghost use Rattle.image.specs.Image.{imaged};
-ghost use Rattle.segment_places.specs.Becomes.{Becomes};
+ghost use Rattle.segment.specs.Plain.{withInput};
+ghost use Rattle.segment_image.specs.Image.{decodeImage};
+ghost use Rattle.segment_places.specs.ProgramBecomes.{Becomes};
 use crate::bytes;
 use crate::head;
-use bus::INPUT;
-use image::IMAGE;
-use image::INPUT_AT;
-use image::WAITING_AT;
 use laws::least;
+use segment::INPUT;
+use segment_image::IMAGE;
+use segment_image::INPUT_AT;
+use segment_image::WAITING_AT;
 
 // The longest piece, and the longest with what waits before it.
 pub const PIECE: usize = 1024;
@@ -28,7 +28,7 @@ fn nothing() -> [u8; INPUT]
 // These bytes, and 0 behind them.
 fn put_input(image: &mut [u8; IMAGE], rest: &[u8])
     requires { ⌜ length (now rest) ≤ 260 ⌝ }
-    ensures { λ _. ⌜ Becomes (now (image .entry)) (withInput (now (rest .entry)) (imaged (now (image .entry)))) (now (image .exit)) ⌝ }
+    ensures { λ _. ⌜ Becomes (now (image .entry)) (withInput (now (rest .entry)) (decodeImage (now (image .entry)))) (now (image .exit)) ⌝ }
 {
     let none = nothing();
     bytes::put(image, INPUT_AT, &none);
@@ -38,7 +38,7 @@ fn put_input(image: &mut [u8; IMAGE], rest: &[u8])
 
 // These bytes wait, and no others: at most 260.
 pub fn keep(image: &mut [u8; IMAGE], rest: &[u8])
-    ensures { λ _. ⌜ Becomes (now (image .entry)) (withInput (take 260 (now (rest .entry))) (imaged (now (image .entry)))) (now (image .exit)) ⌝ }
+    ensures { λ _. ⌜ Becomes (now (image .entry)) (withInput (take 260 (now (rest .entry))) (decodeImage (now (image .entry)))) (now (image .exit)) ⌝ }
 {
     let n = least(rest.len(), INPUT);
     put_input(image, &rest[..n])
@@ -46,7 +46,7 @@ pub fn keep(image: &mut [u8; IMAGE], rest: &[u8])
 
 // All that waits is discarded. Where nothing waits there is nothing to write.
 pub fn discard(image: &mut [u8; IMAGE])
-    ensures { λ _. ⌜ Becomes (now (image .entry)) (withInput [] (imaged (now (image .entry)))) (now (image .exit)) ⌝ }
+    ensures { λ _. ⌜ Becomes (now (image .entry)) (withInput [] (decodeImage (now (image .entry)))) (now (image .exit)) ⌝ }
 {
     if head::waiting_of(image) != 0 {
         let none = nothing();
@@ -59,8 +59,8 @@ fn blank_line() -> [u8; LINE] {
 }
 
 fn line_of(image: &[u8; IMAGE], waiting: usize, piece: &[u8]) -> [u8; LINE]
-    requires { ⌜ (waiting ≡ length (imaged (now image) .input)) × (length (now piece) ≤ 1024) ⌝ }
-    ensures { λ r. ⌜ take (waiting + length (now (piece .entry))) r ≡ imaged (now (image .entry)) .input ++ now (piece .entry) ⌝ }
+    requires { ⌜ (waiting ≡ length (decodeImage (now image) .input)) × (length (now piece) ≤ 1024) ⌝ }
+    ensures { λ r. ⌜ take (waiting + length (now (piece .entry))) r ≡ decodeImage (now (image .entry)) .input ++ now (piece .entry) ⌝ }
 {
     let mut line = blank_line();
     let whole = &image[..];
@@ -71,7 +71,7 @@ fn line_of(image: &[u8; IMAGE], waiting: usize, piece: &[u8]) -> [u8; LINE]
 
 // What waits, and a piece behind it: at most 1,024 bytes of it.
 pub fn with_piece(image: &[u8; IMAGE], piece: &[u8]) -> [u8; LINE]
-    ensures { λ r. ⌜ take (length (imaged (now (image .entry)) .input) + min (length (now (piece .entry))) 1024) r ≡ imaged (now (image .entry)) .input ++ take 1024 (now (piece .entry)) ⌝ }
+    ensures { λ r. ⌜ take (length (decodeImage (now (image .entry)) .input) + min (length (now (piece .entry))) 1024) r ≡ decodeImage (now (image .entry)) .input ++ take 1024 (now (piece .entry)) ⌝ }
 {
     let n = least(piece.len(), PIECE);
     line_of(image, head::waiting_of(image), &piece[..n])

@@ -3,17 +3,17 @@ ghost use mathlib.Core.Path.{_≡_};
 ghost use Prim.Native.Nat.{_<_};
 ghost use lib.ListN.{length, set};
 ghost use Rattle.meter.specs.View.{plainMeter};
-ghost use Rattle.bus.specs.Plain.{withMeters};
-ghost use Rattle.image.specs.Image.{imaged};
-ghost use Rattle.segment_places.specs.Becomes.{meterIn, Becomes};
+ghost use Rattle.segment.specs.Plain.{withMeters};
+ghost use Rattle.segment_image.specs.Image.{decodeImage};
+ghost use Rattle.segment_places.specs.ProgramBecomes.{meterIn, Becomes};
 use crate::bytes;
 use crate::head;
-use bus::METERS;
-use image::IMAGE;
-use image::METER;
-use image::METERS_AT;
 use meter::Meter;
-use meter_image::meters;
+use segment::METERS;
+use segment_image::IMAGE;
+use segment_image::METER;
+use segment_image::METERS_AT;
+use segment_image::meters;
 
 fn read_at(image: &[u8; IMAGE], i: usize) -> Meter
     requires { ⌜ i < 64 ⌝ }
@@ -37,8 +37,8 @@ pub fn meter_at(image: &[u8; IMAGE], i: usize) -> Meter
 
 // Another meter over the bytes of one that is there.
 fn put_at(image: &mut [u8; IMAGE], i: usize, m: Meter)
-    requires { ⌜ i < length (imaged (now image) .meters) ⌝ }
-    ensures { λ _. ⌜ Becomes (now (image .entry)) (withMeters (set (imaged (now (image .entry)) .meters) i (plainMeter m)) (imaged (now (image .entry)))) (now (image .exit)) ⌝ }
+    requires { ⌜ i < length (decodeImage (now image) .meters) ⌝ }
+    ensures { λ _. ⌜ Becomes (now (image .entry)) (withMeters (set (decodeImage (now (image .entry)) .meters) i (plainMeter m)) (decodeImage (now (image .entry)))) (now (image .exit)) ⌝ }
 {
     let b = meters::meter_bytes(m);
     bytes::put(image, METERS_AT + METER * i, &b)
@@ -46,7 +46,7 @@ fn put_at(image: &mut [u8; IMAGE], i: usize, m: Meter)
 
 // Another meter at the place i, if one is there. All else stays as it is.
 pub fn put_meter(image: &mut [u8; IMAGE], i: usize, m: Meter)
-    ensures { λ _. ⌜ Becomes (now (image .entry)) (withMeters (set (imaged (now (image .entry)) .meters) i (plainMeter m)) (imaged (now (image .entry)))) (now (image .exit)) ⌝ }
+    ensures { λ _. ⌜ Becomes (now (image .entry)) (withMeters (set (decodeImage (now (image .entry)) .meters) i (plainMeter m)) (decodeImage (now (image .entry)))) (now (image .exit)) ⌝ }
 {
     if i < head::count_of(image) {
         put_at(image, i, m)

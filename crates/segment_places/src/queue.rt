@@ -4,16 +4,16 @@ ghost use mathlib.Core.List.{[], _++_};
 ghost use Prim.Native.Nat.{_+_, _≤_};
 ghost use lib.ListN.{length, take, drop, replicate};
 ghost use lib.Seq.{paste};
-ghost use Rattle.bus.specs.Plain.{withQueue};
-ghost use Rattle.image.specs.Image.{imaged};
-ghost use Rattle.segment_places.specs.Becomes.{Becomes, Queues, HandsOut};
+ghost use Rattle.segment.specs.Plain.{withQueue};
+ghost use Rattle.segment_image.specs.Image.{decodeImage};
+ghost use Rattle.segment_places.specs.ProgramBecomes.{Becomes, Queues, HandsOut};
 use crate::bytes;
 use crate::head;
-use bus::QUEUE;
-use image::IMAGE;
-use image::QUEUE_AT;
-use image::QUEUED_AT;
 use laws::least;
+use segment::QUEUE;
+use segment_image::IMAGE;
+use segment_image::QUEUE_AT;
+use segment_image::QUEUED_AT;
 
 // Some bytes behind those queued, if there is room for them.
 pub fn append(image: &mut [u8; IMAGE], more: &[u8]) -> bool
@@ -43,7 +43,7 @@ pub fn append_same(image: &mut [u8; IMAGE], n: usize, b: u8) -> bool
 
 // All that is queued is gone.
 pub fn empty(image: &mut [u8; IMAGE])
-    ensures { λ _. ⌜ Becomes (now (image .entry)) (withQueue [] (imaged (now (image .entry)))) (now (image .exit)) ⌝ }
+    ensures { λ _. ⌜ Becomes (now (image .entry)) (withQueue [] (decodeImage (now (image .entry)))) (now (image .exit)) ⌝ }
 {
     let queued = head::queued_of(image);
     bytes::fill(image, QUEUE_AT, queued, 0);
@@ -63,8 +63,8 @@ fn shift(image: &mut [u8], n: usize, m: usize)
 }
 
 fn shorten(image: &mut [u8; IMAGE], n: usize, queued: usize)
-    requires { ⌜ (queued ≡ length (imaged (now image) .queue)) × (n ≤ queued) ⌝ }
-    ensures { λ _. ⌜ Becomes (now (image .entry)) (withQueue (drop n (imaged (now (image .entry)) .queue)) (imaged (now (image .entry)))) (now (image .exit)) ⌝ }
+    requires { ⌜ (queued ≡ length (decodeImage (now image) .queue)) × (n ≤ queued) ⌝ }
+    ensures { λ _. ⌜ Becomes (now (image .entry)) (withQueue (drop n (decodeImage (now (image .entry)) .queue)) (decodeImage (now (image .entry)))) (now (image .exit)) ⌝ }
 {
     let m = queued - n;
     shift(image, n, m);
@@ -74,15 +74,15 @@ fn shorten(image: &mut [u8; IMAGE], n: usize, queued: usize)
 
 // The first n of the queued bytes are gone.
 pub fn take_out(image: &mut [u8; IMAGE], n: usize)
-    ensures { λ _. ⌜ Becomes (now (image .entry)) (withQueue (drop n (imaged (now (image .entry)) .queue)) (imaged (now (image .entry)))) (now (image .exit)) ⌝ }
+    ensures { λ _. ⌜ Becomes (now (image .entry)) (withQueue (drop n (decodeImage (now (image .entry)) .queue)) (decodeImage (now (image .entry)))) (now (image .exit)) ⌝ }
 {
     let queued = head::queued_of(image);
     shorten(image, least(n, queued), queued)
 }
 
 fn copy_out(image: &[u8; IMAGE], n: usize, lent: &mut [u8])
-    requires { ⌜ (n ≤ length (imaged (now image) .queue)) × (n ≤ length (now lent)) ⌝ }
-    ensures { λ _. ⌜ now (lent .exit) ≡ take n (imaged (now (image .entry)) .queue) ++ drop n (now (lent .entry)) ⌝ }
+    requires { ⌜ (n ≤ length (decodeImage (now image) .queue)) × (n ≤ length (now lent)) ⌝ }
+    ensures { λ _. ⌜ now (lent .exit) ≡ take n (decodeImage (now (image .entry)) .queue) ++ drop n (now (lent .entry)) ⌝ }
 {
     let whole = &image[..];
     bytes::put(lent, 0, &whole[QUEUE_AT..QUEUE_AT + n])
@@ -90,7 +90,7 @@ fn copy_out(image: &[u8; IMAGE], n: usize, lent: &mut [u8])
 
 // The first of the queued bytes, at most so many and no more than are lent, become the first of what is lent; how many.
 pub fn hand_out(image: &[u8; IMAGE], most: usize, lent: &mut [u8]) -> usize
-    ensures { λ r. ⌜ HandsOut most (imaged (now (image .entry)) .queue) (now (lent .entry)) r (now (lent .exit)) ⌝ }
+    ensures { λ r. ⌜ HandsOut most (decodeImage (now (image .entry)) .queue) (now (lent .entry)) r (now (lent .exit)) ⌝ }
 {
     let n = least(most, least(lent.len(), head::queued_of(image)));
     copy_out(image, n, lent);

@@ -10,22 +10,22 @@ use lib.ListN.{length, length-append, length-map}
 use Rattle.laws.specs.Words.{if_then_else_}
 use Rattle.laws.proofs.Lists.{if-all}
 use Rattle.frame.specs.Frame.{Telegram, ack, short, long}
-use Rattle.seconds.specs.Seconds.{elapsedOf}
+use Rattle.time_seconds.specs.Seconds.{elapsedOf}
 use Rattle.meter.specs.PlainMeter.{PlainMeter}
-use Rattle.hear.specs.Hear.{Heard, quiet, listens, hear}
-use Rattle.clock.specs.declared.Clock.{Clock}
-use Rattle.bus.specs.Plain.{Plain, withMeters, withQueue}
-use Rattle.replies.specs.declared.Joining.{Joining}
-use Rattle.replies.specs.Replies.{joined}
-use Rattle.replies.specs.Joining.{bytesKept}
-use Rattle.replies.proofs.JoiningLaws.{joined-is, lengthKept, length-kept}
-use Rattle.image.specs.Image.{imaged}
-use Rattle.segment_places.specs.Becomes.{Becomes, Queues}
+use Rattle.meter_step.specs.Hear.{Heard, quiet, listens, hear}
+use Rattle.time_clock.specs.declared.Clock.{Clock}
+use Rattle.segment.specs.Plain.{Plain, withMeters, withQueue}
+use Rattle.segment_replies.specs.declared.Joining.{Joining}
+use Rattle.segment_replies.specs.Replies.{joined}
+use Rattle.segment_replies.specs.ProgramJoining.{bytesKept}
+use Rattle.segment_replies.proofs.JoiningLaws.{joined-is, lengthKept, length-kept}
+use Rattle.segment_image.specs.Image.{decodeImage}
+use Rattle.segment_places.specs.ProgramBecomes.{Becomes, Queues}
 use Rattle.segment_places.proofs.Becoming.{becomes-as, becomes-then}
 use Rattle.segment_places.proofs.PlaceLaws.{meters-few}
-use Rattle.segment_telegram.specs.Handled.{withReply, replies, toAll, heardBy, handled}
-use Rattle.segment_telegram.specs.Sweep.{Sweeps}
-use Rattle.segment_telegram.specs.Comes.{mayReply, Handles}
+use Rattle.segment_telegram.specs.Handled.{withReply, replies, toBroadcast, heardBy, handled}
+use Rattle.segment_telegram.specs.ProgramSweep.{Sweeps}
+use Rattle.segment_telegram.specs.ProgramComes.{mayReply, Handles}
 use Rattle.segment_telegram.proofs.RepliesLaws.{replies-few}
 
 -- ---- an ACK
@@ -55,12 +55,12 @@ never e f = let z : _≡_ {A = ℕ} 0 1 = cc in absurd (omega arith)
 
 module _ (t : Telegram) (k : Clock) {old mid : List ℕ} {kept : Joining} {bytes : List ℕ} (w : Sweeps t k old mid kept bytes) where
   abbrev s : Plain
-  s = imaged old
+  s = decodeImage old
 
   abbrev after : Plain
   after = handled t k (s .input) s
 
-  same-queue : imaged mid .queue ≡ s .queue
+  same-queue : decodeImage mid .queue ≡ s .queue
   same-queue = ap (λ p. p .queue) (w .becomes .means)
 
   heard-many : length (heardBy t k s) ≡ length (s .meters)
@@ -86,7 +86,7 @@ module _ (t : Telegram) (k : Clock) {old mid : List ℕ} {kept : Joining} {bytes
       go (short c a) e = reply-short
       go (long c a ci d) e = reply-short
 
-  pub handled-all : true ≡ toAll t → Handles t after old true mid
+  pub handled-all : true ≡ toBroadcast t → Handles t after old true mid
   unfolding handled
   handled-all e =
       let same : withMeters (map (λ h. h .meter) (heardBy t k s)) s ≡ after =
@@ -102,18 +102,18 @@ module _ (t : Telegram) (k : Clock) {old mid : List ℕ} {kept : Joining} {bytes
         left = λ x. never refl x;
       }
 
-  module _ (e : false ≡ toAll t) where
-    after-is : after ≡ withQueue (imaged mid .queue ++ bytesKept kept bytes) (imaged mid)
+  module _ (e : false ≡ toBroadcast t) where
+    after-is : after ≡ withQueue (decodeImage mid .queue ++ bytesKept kept bytes) (decodeImage mid)
     unfolding handled
     after-is =
         ap (λ b. withQueue (if b then s .queue else s .queue ++ joined (replies (heardBy t k s))) (withMeters (map (λ h. h .meter) (heardBy t k s)) s)) (sym e)
         ∙ ap₂ (λ x y. withQueue (x ++ y) (withMeters (map (λ h. h .meter) (heardBy t k s)) s)) (sym same-queue) (joined-is (w .joins))
-        ∙ ap (withQueue (imaged mid .queue ++ bytesKept kept bytes)) (sym (w .becomes .means))
+        ∙ ap (withQueue (decodeImage mid .queue ++ bytesKept kept bytes)) (sym (w .becomes .means))
 
     after-long : length (after .queue) ≡ length (s .queue) + lengthKept kept
     after-long =
         ap (λ p. length (p .queue)) after-is
-        ∙ length-append (imaged mid .queue) (bytesKept kept bytes)
+        ∙ length-append (decodeImage mid .queue) (bytesKept kept bytes)
         ∙ ap₂ (λ x y. x + y) (ap length same-queue) (length-kept (w .joins))
 
     -- its reply joins the queue, or does not fit

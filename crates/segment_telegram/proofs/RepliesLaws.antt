@@ -7,7 +7,7 @@ use native.Mathlib.Omega.{arith}
 use lib.ListN.{length}
 use Rattle.laws.specs.Words.{if_then_else_, keep, Every}
 use Rattle.meter.specs.PlainMeter.{PlainMeter}
-use Rattle.hear.specs.Hear.{Reply, silence, says, Heard}
+use Rattle.meter_step.specs.Hear.{Reply, silence, says, Heard}
 use Rattle.segment_telegram.specs.Handled.{withReply, replies}
 
 -- those that pass a test reply

@@ -4,11 +4,11 @@ use mathlib.Core.List.{List, [], _∷_, _++_, map}
 use Prim.Native.Nat.{ℕ}
 use Rattle.frame.specs.Frame.{short, long}
 use Rattle.meter.specs.PlainMeter.{PlainMeter}
-use Rattle.clock.specs.declared.Clock.{Clock}
-use Rattle.hear.specs.Hear.{E5, quiet}
-use Rattle.bus.specs.Plain.{Plain}
-use Rattle.replies.specs.Replies.{joined}
-use Rattle.replies.proofs.JoinLaws.{joined-acks}
+use Rattle.time_clock.specs.declared.Clock.{Clock}
+use Rattle.meter_step.specs.Hear.{E5, quiet}
+use Rattle.segment.specs.Plain.{Plain}
+use Rattle.segment_replies.specs.Replies.{joined}
+use Rattle.segment_replies.proofs.JoinLaws.{joined-acks}
 use Rattle.segment_telegram.specs.Handled.{replies, heardBy, handled}
 
 -- several E5 come end to end, as many as there are

@@ -5,11 +5,11 @@ use Prim.Native.Nat.{ℕ}
 use lib.Dec.{eqb}
 use Rattle.laws.specs.Words.{if_then_else_}
 use Rattle.frame.specs.Frame.{Telegram, ack, short, long}
-use Rattle.seconds.specs.Seconds.{elapsedOf}
-use Rattle.clock.specs.declared.Clock.{Clock}
-use Rattle.hear.specs.Hear.{Reply, silence, says, Heard, hear}
-use Rattle.bus.specs.Plain.{Plain}
-use Rattle.replies.specs.Replies.{joined}
+use Rattle.time_seconds.specs.Seconds.{elapsedOf}
+use Rattle.time_clock.specs.declared.Clock.{Clock}
+use Rattle.meter_step.specs.Hear.{Reply, silence, says, Heard, hear}
+use Rattle.segment.specs.Plain.{Plain}
+use Rattle.segment_replies.specs.Replies.{joined}
 
 -- the replies of those that gave one, in list order
 abbrev pub withReply : Reply → List (List ℕ) → List (List ℕ)
@@ -21,10 +21,10 @@ replies [] = []
 replies (h ∷ hs) = withReply (h .reply) (replies hs)
 
 -- a telegram to address FF; ACK has no address
-abbrev pub toAll : Telegram → Bool
-toAll ack = false
-toAll (short c a) = eqb a 0xFF
-toAll (long c a ci d) = eqb a 0xFF
+abbrev pub toBroadcast : Telegram → Bool
+toBroadcast ack = false
+toBroadcast (short c a) = eqb a 0xFF
+toBroadcast (long c a ci d) = eqb a 0xFF
 
 -- every meter hears the telegram in its own way; elapsed is now - origin, one rounding, not below 0
 unfoldable pub heardBy : Telegram → Clock → Plain → List Heard
@@ -38,6 +38,6 @@ handled t k rest s =
       baud = s .baud;
       origin = s .origin;
       input = rest;
-      queue = if toAll t then s .queue else s .queue ++ joined (replies hs);
+      queue = if toBroadcast t then s .queue else s .queue ++ joined (replies hs);
       meters = map (λ h. h .meter) hs;
     }

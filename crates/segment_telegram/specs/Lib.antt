@@ -1,3 +1,3 @@
-pub mod Comes
+pub mod ProgramComes
 pub mod Handled
-pub mod Sweep
+pub mod ProgramSweep

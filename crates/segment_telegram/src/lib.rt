@@ -4,17 +4,17 @@ ghost use mathlib.Core.List.{List};
 ghost use Prim.Native.Nat.{ℕ, _≤_};
 ghost use lib.Dec.{eqb};
 ghost use Rattle.frame.specs.View.{telegramOf};
-ghost use Rattle.replies.specs.Joining.{replyMost, bytesKept};
-ghost use Rattle.image.specs.Image.{imaged};
-ghost use Rattle.segment_places.specs.Becomes.{Queues};
-ghost use Rattle.segment_telegram.specs.Handled.{toAll, handled};
-ghost use Rattle.segment_telegram.specs.Comes.{Handles};
-use clock::Clock;
+ghost use Rattle.segment_replies.specs.ProgramJoining.{replyMost, bytesKept};
+ghost use Rattle.segment_image.specs.Image.{decodeImage};
+ghost use Rattle.segment_places.specs.ProgramBecomes.{Queues};
+ghost use Rattle.segment_telegram.specs.Handled.{toBroadcast, handled};
+ghost use Rattle.segment_telegram.specs.ProgramComes.{Handles};
 use frame::Frame;
-use image::IMAGE;
-use replies::Joining;
-use replies::REPLY;
+use segment_image::IMAGE;
 use segment_places::queue;
+use segment_replies::Joining;
+use segment_replies::REPLY;
+use time_clock::Clock;
 
 mod sweep; // sweep.rt: the meters hear a telegram
 
@@ -25,8 +25,8 @@ fn is_broadcast(address: u8) -> bool
 }
 
 // A telegram to address FF, after which no reply joins the queue.
-fn to_all(frame: Frame) -> bool
-    ensures { λ r. ⌜ ((d : List ℕ) → r ≡ toAll (telegramOf frame d)) ⌝ }
+fn to_broadcast(frame: Frame) -> bool
+    ensures { λ r. ⌜ ((d : List ℕ) → r ≡ toBroadcast (telegramOf frame d)) ⌝ }
 {
     match frame {
         Frame::Ack => false,
@@ -56,11 +56,11 @@ fn queue_reply(image: &mut [u8; IMAGE], joined: [u8; REPLY], kept: Joining) -> b
 
 // One telegram; false where its reply does not fit the queue, and what the meters did is left as it is.
 pub fn handle(image: &mut [u8; IMAGE], frame: Frame, data: &[u8], clock: Clock) -> bool
-    ensures { λ r. ⌜ Handles (telegramOf frame (now («data» .entry))) (handled (telegramOf frame (now («data» .entry))) clock (imaged (now (image .entry)) .input) (imaged (now (image .entry)))) (now (image .entry)) r (now (image .exit)) ⌝ }
+    ensures { λ r. ⌜ Handles (telegramOf frame (now («data» .entry))) (handled (telegramOf frame (now («data» .entry))) clock (decodeImage (now (image .entry)) .input) (decodeImage (now (image .entry)))) (now (image .entry)) r (now (image .exit)) ⌝ }
 {
-    let mut joined = replies::nothing();
+    let mut joined = segment_replies::nothing();
     let kept = sweep::sweep(image, &mut joined, frame, data, clock);
-    if to_all(frame) {
+    if to_broadcast(frame) {
         return true;
     }
     queue_reply(image, joined, kept)

@@ -4,25 +4,25 @@ ghost use Prim.Native.Nat.{_≤_, _<_};
 ghost use lib.ListN.{replicate};
 ghost use Rattle.frame.specs.Frame.{Telegram};
 ghost use Rattle.frame.specs.View.{telegramOf};
-ghost use Rattle.seconds.specs.Seconds.{elapsedOf};
-ghost use Rattle.hear.specs.Hear.{hear};
-ghost use Rattle.meter_concern.specs.Concern.{concernsBy};
-ghost use Rattle.meter_concern.specs.Seeking.{Seeks};
-ghost use Rattle.replies.specs.Joining.{replyMost};
-ghost use Rattle.image.specs.Image.{imaged};
-ghost use Rattle.segment_places.specs.Becomes.{meterIn};
-ghost use Rattle.segment_telegram.specs.Sweep.{concernsMeter, Skips, TakesPart, Sweeps};
-use clock::Clock;
+ghost use Rattle.time_seconds.specs.Seconds.{elapsedOf};
+ghost use Rattle.meter_step.specs.Hear.{hear};
+ghost use Rattle.meter_concern.specs.ProgramConcern.{concernsBy};
+ghost use Rattle.meter_concern.specs.ProgramSeeking.{Seeks};
+ghost use Rattle.segment_replies.specs.ProgramJoining.{replyMost};
+ghost use Rattle.segment_image.specs.Image.{decodeImage};
+ghost use Rattle.segment_places.specs.ProgramBecomes.{meterIn};
+ghost use Rattle.segment_telegram.specs.ProgramSweep.{concernsMeter, Skips, MeterHears, Sweeps};
 use frame::Frame;
-use hear::Answer;
-use image::IMAGE;
-use image::METER;
-use image::METERS_AT;
 use meter_concern::Seeking;
-use replies::Joining;
-use replies::REPLY;
+use meter_step::Answer;
+use segment_image::IMAGE;
+use segment_image::METER;
+use segment_image::METERS_AT;
 use segment_places::head;
 use segment_places::meters;
+use segment_replies::Joining;
+use segment_replies::REPLY;
+use time_clock::Clock;
 
 // Whether the meter at the place i is one of those sought: its first bytes and its selection tell.
 fn is_sought(q: Seeking, image: &[u8; IMAGE], i: usize) -> bool
@@ -62,9 +62,9 @@ fn next_sought(q: Seeking, image: &[u8; IMAGE], from: usize, end: usize) -> usiz
 
 // Worked out where it is needed, so that a telegram that asks for no readout does not pay for it.
 fn elapsed_of(image: &[u8; IMAGE], clock: Clock) -> f64
-    ensures { λ r. ⌜ r ≡ elapsedOf (clock .now) (imaged (now (image .entry)) .origin) ⌝ }
+    ensures { λ r. ⌜ r ≡ elapsedOf (clock .now) (decodeImage (now (image .entry)) .origin) ⌝ }
 {
-    seconds::elapsed(clock.now, head::origin_of(image))
+    time_seconds::elapsed(clock.now, head::origin_of(image))
 }
 
 // The meter at the place i hears a telegram, and its reply joins those before it.
@@ -79,20 +79,20 @@ fn step(
     clock: Clock,
 ) -> Joining
     requires { ⌜ kept .count < 4096 ⌝ }
-    ensures { λ r. ⌜ TakesPart (hear bus (telegramOf frame (now («data» .entry))) (elapsedOf (clock .now) (imaged (now (image .entry)) .origin)) clock) i (now (image .entry)) kept (now (joined .entry)) (now (image .exit)) r (now (joined .exit)) ⌝ }
+    ensures { λ r. ⌜ MeterHears (hear bus (telegramOf frame (now («data» .entry))) (elapsedOf (clock .now) (decodeImage (now (image .entry)) .origin)) clock) i (now (image .entry)) kept (now (joined .entry)) (now (image .exit)) r (now (joined .exit)) ⌝ }
 {
     let m = meters::meter_at(image, i);
-    let h = hear::hear(m, bus, frame, data);
+    let h = meter_step::hear(m, bus, frame, data);
     let n = h.meter;
     let answer = h.answer;
     meters::put_meter(image, i, n);
     match answer {
         Answer::Silent => kept,
-        Answer::Ack => replies::join_ack(joined, kept),
-        Answer::Readout => replies::join(
+        Answer::Ack => segment_replies::join_ack(joined, kept),
+        Answer::Readout => segment_replies::join(
             joined,
             kept,
-            readout::readout(n, elapsed_of(image, clock), clock),
+            meter_reply::readout(n, elapsed_of(image, clock), clock),
         ),
     }
 }

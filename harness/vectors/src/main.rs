@@ -1,4 +1,4 @@
-//! Writes a sample of the Rust's answers: a script of calls (`stdin` of the program `replay`) and what the Rust gives
+//! Writes a sample of the Rust's answers: a script of calls (`stdin` of the program `test_replay`) and what the Rust gives
 //! for it (`stdout`). usage: vectors DIR [search], with searches
 mod meters;
 mod sample;

@@ -1,5 +1,5 @@
 use mathlib.Core.Path.{refl}
-use Rattle.scenarios.specs.Opening.{capacity}
+use Rattle.list_open.specs.Opening.{capacity}
 use Rattle.jezynar.proofs.segment_image_len.Statement.{statement}
 use Rattle.jezynar.proofs.segment_image_len.Tie as tie
 

@@ -2,8 +2,8 @@
 use native.Mathlib.Omega.{arith}
 use mathlib.Core.Path.{_≡_, subst}
 use Prim.Native.Nat.{_/_, _%_}
-use Rattle.scenarios.specs.Opening.{OpeningGives, openList}
-use Rattle.refusals.specs.Refusals.{refusalNumber, refusalIndex}
+use Rattle.list_open.specs.Opening.{OpeningGives, openList}
+use Rattle.list_check.specs.Refusals.{refusalNumber, refusalIndex}
 use Rattle.jezynar.proofs.ImageLaws.{opening-index, number-small}
 use borrow.Author.Needs.{needs}
 use Rattle.jezynar.proofs.segment_open.Statement.{statement}

@@ -1,8 +1,8 @@
 -- `jezynar::segment_set_baud` meets its contract.
 use mathlib.Core.Path.{sym, subst}
-use Rattle.bus.specs.Calls.{changeBaud}
-use Rattle.image.specs.Image.{imaged}
-use Rattle.image.specs.Answers.{DoneImage}
+use Rattle.segment.specs.Calls.{changeBaud}
+use Rattle.segment_image.specs.Image.{decodeImage}
+use Rattle.segment_image.specs.Answers.{DoneImage}
 use borrow.Author.Needs.{needs}
 use Rattle.jezynar.proofs.segment_set_baud.Statement.{statement}
 use Rattle.jezynar.proofs.segment_set_baud.Tie as tie
@@ -16,7 +16,7 @@ changing-number-requires c κs = search needs
 returns : tie.Need-returns
 returns c =
     let a = c .before .before .before .args in
-    subst (λ n. DoneImage (changeBaud (a .baud) (imaged (a .image .now))) n (a .image .now) (c .before .set-baud .last .0)) (sym (c .changing-number .ensures)) (c .before .set-baud .ensures)
+    subst (λ n. DoneImage (changeBaud (a .baud) (decodeImage (a .image .now))) n (a .image .now) (c .before .set-baud .last .0)) (sym (c .changing-number .ensures)) (c .before .set-baud .ensures)
 
 pub segment-set-baud-spec : {M : Type 1} → statement M
 segment-set-baud-spec = tie.close (tie.spec set-baud-requires changing-number-requires returns)

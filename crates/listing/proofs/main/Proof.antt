@@ -1,6 +1,6 @@
 use borrow.Author.Needs.{needs}
 use Rattle.io.proofs.Counting.{front}
-use Rattle.report_text.proofs.TextLaws.{prints-within}
+use Rattle.listing_text.proofs.TextLaws.{prints-within}
 use Rattle.listing.proofs.main.Statement.{statement}
 use Rattle.listing.proofs.main.Tie as tie
 

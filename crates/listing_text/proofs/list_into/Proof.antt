@@ -3,7 +3,7 @@ use lib.ListN.{length}
 use borrow.Author.Needs.{needs}
 use Rattle.search.specs.Site.{site}
 use Rattle.laws.proofs.Sweep.{length-mapped}
-use Rattle.scenarios.specs.Opening.{capacity}
+use Rattle.list_open.specs.Opening.{capacity}
 use Rattle.listing_text.proofs.ListingLaws.{lists-refusal, lists-report}
 use Rattle.listing_text.proofs.list_into.Statement.{statement}
 use Rattle.listing_text.proofs.list_into.Tie as tie

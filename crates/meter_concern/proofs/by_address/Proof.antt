@@ -1,6 +1,6 @@
 use borrow.Author.Needs.{needs}
 use mathlib.Core.Path.{sym, ap}
-use Rattle.hear.specs.Hear.{reaches}
+use Rattle.meter_step.specs.Hear.{reaches}
 use Rattle.meter_concern.proofs.SeekLaws.{seeks-as, seeks-primary, reaches-other}
 use Rattle.meter_concern.proofs.by_address.Statement.{statement}
 use Rattle.meter_concern.proofs.by_address.Tie as tie

@@ -3,9 +3,9 @@ use mathlib.Core.Bool.{true, _||_}
 use Prim.Native.Nat.{_*_}
 use lib.Bits.{bitAnd}
 use Rattle.numbers.specs.Number.{number}
-use Rattle.identity.specs.Identity.{digitsOf}
-use Rattle.matching.specs.Matching.{idMatches}
-use Rattle.meter_concern.specs.Seeking.{Seeks}
+use Rattle.meter_identity.specs.Identity.{digitsOf}
+use Rattle.meter_select.specs.Matching.{idMatches}
+use Rattle.meter_concern.specs.ProgramSeeking.{Seeks}
 use Rattle.meter_concern.proofs.SeekLaws.{knownBytes, seeks-as, seeks-mask, few-none}
 use borrow.Author.Needs.{needs}
 use Rattle.meter_concern.proofs.by_id.Statement.{statement}

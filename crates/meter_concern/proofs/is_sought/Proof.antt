@@ -6,7 +6,7 @@ use native.Mathlib.Omega.{arith}
 use lib.Dec.{eqb}
 use lib.Bits.{bitAnd}
 use Rattle.numbers.specs.Number.{number}
-use Rattle.meter_concern.specs.Seeking.{firstBytes, soughtBy}
+use Rattle.meter_concern.specs.ProgramSeeking.{firstBytes, soughtBy}
 use borrow.Author.Needs.{needs}
 use Rattle.meter_concern.proofs.is_sought.Statement.{statement}
 use Rattle.meter_concern.proofs.is_sought.Tie as tie

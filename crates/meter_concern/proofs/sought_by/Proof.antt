@@ -2,9 +2,9 @@ use borrow.Author.Needs.{needs}
 use mathlib.Core.Path.{sym, subst}
 use denote.Ref.{now}
 use Rattle.frame.specs.View.{telegramOf}
-use Rattle.identity.specs.Identity.{digitsOf}
-use Rattle.meter_concern.specs.Concern.{concerns}
-use Rattle.meter_concern.specs.Seeking.{Seeks}
+use Rattle.meter_identity.specs.Identity.{digitsOf}
+use Rattle.meter_concern.specs.ProgramConcern.{concerns}
+use Rattle.meter_concern.specs.ProgramSeeking.{Seeks}
 use Rattle.meter_concern.proofs.sought_by.Statement.{statement}
 use Rattle.meter_concern.proofs.sought_by.Tie as tie
 

@@ -1,6 +1,6 @@
 use mathlib.Core.Path.{refl}
 use borrow.Author.Needs.{needs}
-use Rattle.scenarios.specs.Opening.{capacity}
+use Rattle.list_open.specs.Opening.{capacity}
 use Rattle.search.proofs.entry_at.Statement.{statement}
 use Rattle.search.proofs.entry_at.Tie as tie
 

@@ -46,11 +46,11 @@ use denote.Triple.Table.{entered, cited}
 use denote.Triple.Clauses.{ensured}
 use denote.Triple.Walked.{says, Stays, gave-ref, stay-none, stay-slice, walkOf, goes-gave-ref, goes-none, goes-slice, Walks, ends-at, walked, walk-meets}
 use denote.Exit.{yes}
-use Rattle.clock.specs.declared.Clock.{Clock}
-use Rattle.clock.proofs.Clock as K
-use Rattle.clock.proofs.Clock.Laws as K′
-use Rattle.scenarios.specs.Opening.{capacity}
-use Rattle.scenarios.proofs.OpeningLaws.{capacity-is}
+use Rattle.time_clock.specs.declared.Clock.{Clock}
+use Rattle.time_clock.proofs.Clock as K
+use Rattle.time_clock.proofs.Clock.Laws as K′
+use Rattle.list_open.specs.Opening.{capacity}
+use Rattle.list_open.proofs.OpeningLaws.{capacity-is}
 use Rattle.search.specs.View.{noEntry, SearchesIn, SearchesInto}
 use Rattle.search.specs.ProgramSearch.{answerOf, recordAt}
 use Rattle.search.specs.declared.EntryRecord.{EntryRecord}

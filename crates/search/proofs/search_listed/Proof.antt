@@ -42,14 +42,14 @@ use denote.Triple.Spec.{Meets, tripleOf}
 use denote.Triple.Table.{entered, cited}
 use denote.Triple.Clauses.{ensured}
 use denote.Triple.Walked.{says, Stays, gave-ref, stay-dropped, walkOf, goes-gave-ref, goes-dropped, Walks, ends-at, walked, walk-meets}
-use Rattle.clock.specs.declared.Clock.{Clock}
-use Rattle.clock.proofs.Clock as K
-use Rattle.clock.proofs.Clock.Laws as K′
+use Rattle.time_clock.specs.declared.Clock.{Clock}
+use Rattle.time_clock.proofs.Clock as K
+use Rattle.time_clock.proofs.Clock.Laws as K′
 use Rattle.laws.proofs.least as least
 use Rattle.laws.proofs.least.Symbol as least-def
 use Rattle.laws.proofs.least.Symbol.{name as #laws·least}
 use Rattle.laws.proofs.least.Met as least-thm
-use Rattle.scenarios.specs.Opening.{mostMeters}
+use Rattle.list_open.specs.Opening.{mostMeters}
 use Rattle.search.specs.View.{SearchesIn, SearchesInto}
 use Rattle.search.specs.ProgramSearch.{listedOf}
 use Rattle.search.specs.declared.EntryRecord.{EntryRecord}

@@ -1,4 +1,4 @@
-use Rattle.scenarios.specs.Opening.{capacity}
+use Rattle.list_open.specs.Opening.{capacity}
 use Rattle.search.proofs.MadeLaws.{walks}
 use borrow.Author.Needs.{needs}
 use Rattle.search.proofs.walk_packed.Statement.{statement}

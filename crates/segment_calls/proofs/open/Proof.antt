@@ -2,7 +2,7 @@ use mathlib.Core.Path.{refl, sym, ap, _∙_}
 use native.Mathlib.Omega.{arith}
 use mathlib.Core.List.{[]}
 use borrow.Author.Tests.{not-true, not-false}
-use Rattle.image.specs.Image.{imaged, imageOf}
+use Rattle.segment_image.specs.Image.{decodeImage, encodeImage}
 use Rattle.segment_calls.proofs.OpenLaws.{accepted-number, refused-number, opening-accepted, opening-refused}
 use borrow.Author.Needs.{needs}
 use Rattle.segment_calls.proofs.open.Statement.{statement}
@@ -22,7 +22,7 @@ returns c =
     let refused = sym (d .ensures) ∙ not-true (d .result) (c .if1 .taken) in
     record {
       gives = m .ensures .gives;
-      segment = opening-refused (a .list .now) (a .baud) (a .practice) (a .origin) (imaged (a .image .now)) (m .result .refusal) (m .ensures .gives) refused;
+      segment = opening-refused (a .list .now) (a .baud) (a .practice) (a .origin) (decodeImage (a .image .now)) (m .result .refusal) (m .ensures .gives) refused;
       bytes = λ z. absurd (omega (arith, refused-number (m .result .refusal) refused));
       kept = λ z. refl;
     }
@@ -45,11 +45,11 @@ returns-2 c =
     let p =
     o .ensures
     ∙ ap (λ ms. record { baud = a .baud; origin = a .origin; input = []; queue = []; meters = ms }) (m .ensures .meters)
-    ∙ opening-accepted (a .list .now) (a .baud) (a .practice) (a .origin) (imaged (a .image .now)) (m .result .refusal) (m .ensures .gives) accepted in
+    ∙ opening-accepted (a .list .now) (a .baud) (a .practice) (a .origin) (decodeImage (a .image .now)) (m .result .refusal) (m .ensures .gives) accepted in
     record {
       gives = m .ensures .gives;
       segment = w .means ∙ p;
-      bytes = λ z. w .bytes ∙ ap imageOf p;
+      bytes = λ z. w .bytes ∙ ap encodeImage p;
       kept = λ z. absurd (omega (arith, accepted-number (m .result .refusal) accepted));
     }
 

@@ -1,9 +1,9 @@
 use borrow.Author.Needs.{needs}
 use mathlib.Core.Path.{ap}
 use mathlib.Core.List.{[]}
-use Rattle.bus.specs.Plain.{withInput}
+use Rattle.segment.specs.Plain.{withInput}
 use Rattle.segment_calls.proofs.BaudLaws.{baud-refused, baud-set}
-use Rattle.image.specs.Image.{imaged}
+use Rattle.segment_image.specs.Image.{decodeImage}
 use Rattle.segment_places.proofs.Becoming.{becomes-as, becomes-then, done-none, done-becomes}
 use Rattle.segment_calls.proofs.set_baud.Statement.{statement}
 use Rattle.segment_calls.proofs.set_baud.Tie as tie
@@ -14,7 +14,7 @@ is-rate-requires c κs = search needs
 returns : tie.Need-returns
 returns c =
     let a = c .before .before .args in
-    done-none 10 (baud-refused (a .baud) (imaged (a .image .now)) (c .before .is-rate .ensures) (c .if1 .taken))
+    done-none 10 (baud-refused (a .baud) (decodeImage (a .image .now)) (c .before .is-rate .ensures) (c .if1 .taken))
 
 put-baud-requires : tie.Need-put-baud-requires
 put-baud-requires c κs = search needs
@@ -29,7 +29,7 @@ returns-2 c =
     let a = e .before .before .args in
     let l = a .image .now in
     let b = p .put-baud .ensures in
-    done-becomes (baud-set (a .baud) (imaged l) (e .before .is-rate .ensures) (e .if1 .left)) (becomes-then b (becomes-as (ap (withInput []) (b .means)) (c .discard .ensures)))
+    done-becomes (baud-set (a .baud) (decodeImage l) (e .before .is-rate .ensures) (e .if1 .left)) (becomes-then b (becomes-as (ap (withInput []) (b .means)) (c .discard .ensures)))
 
 pub set-baud-spec : {M : Type 1} → statement M
 set-baud-spec =

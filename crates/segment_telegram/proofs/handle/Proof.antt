@@ -12,15 +12,15 @@ nothing-requires c κs = search needs
 sweep-requires : tie.Need-sweep-requires
 sweep-requires c κs = search needs
 
-to-all-requires : tie.Need-to-all-requires
-to-all-requires c κs = search needs
+to-broadcast-requires : tie.Need-to-broadcast-requires
+to-broadcast-requires c κs = search needs
 
 returns : tie.Need-returns
 returns c =
     let w = c .before .before in
     let a = w .before .before .before .before .before .args in
     let d = now (a .«data») in
-    handled-all (telegramOf (a .frame) d) (a .clock) (w .sweep .ensures) (sym (c .if1 .taken) ∙ c .before .to-all .ensures d)
+    handled-all (telegramOf (a .frame) d) (a .clock) (w .sweep .ensures) (sym (c .if1 .taken) ∙ c .before .to-broadcast .ensures d)
 
 queue-reply-requires : tie.Need-queue-reply-requires
 queue-reply-requires c κs = c .before .before .before .sweep .ensures .joins .fits
@@ -31,7 +31,7 @@ returns-2 c =
     let w = e .before .before in
     let a = w .before .before .before .before .before .args in
     let d = now (a .«data») in
-    handled-queues (telegramOf (a .frame) d) (a .clock) (w .sweep .ensures) (sym (e .if1 .left) ∙ e .before .to-all .ensures d) (c .queue-reply .ensures)
+    handled-queues (telegramOf (a .frame) d) (a .clock) (w .sweep .ensures) (sym (e .if1 .left) ∙ e .before .to-broadcast .ensures d) (c .queue-reply .ensures)
 
 pub handle-spec : {M : Type 1} → statement M
 handle-spec =
@@ -39,7 +39,7 @@ handle-spec =
     (tie.spec
     nothing-requires
     sweep-requires
-    to-all-requires
+    to-broadcast-requires
     returns
     queue-reply-requires
     returns-2)

@@ -3,7 +3,7 @@ use native.Mathlib.Omega.{arith}
 use lib.ListN.{length, take, replicate}
 use lib.Seq.{length-take-le}
 use Rattle.laws.specs.Words.{if_then_else_}
-use Rattle.segment_places.specs.Becomes.{Queues}
+use Rattle.segment_places.specs.ProgramBecomes.{Queues}
 use borrow.Author.Needs.{needs}
 use Rattle.segment_telegram.proofs.queue_reply.Statement.{statement}
 use Rattle.segment_telegram.proofs.queue_reply.Tie as tie

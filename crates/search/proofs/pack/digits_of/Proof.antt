@@ -1,5 +1,5 @@
 use mathlib.Core.Path.{refl}
-use Rattle.identity.specs.Identity.{digitsOf}
+use Rattle.meter_identity.specs.Identity.{digitsOf}
 use borrow.Author.Needs.{needs}
 use Rattle.search.proofs.pack.digits_of.Statement.{statement}
 use Rattle.search.proofs.pack.digits_of.Tie as tie

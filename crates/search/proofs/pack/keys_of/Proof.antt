@@ -3,15 +3,15 @@ use Prim.Native.Nat.{_-_, _≤_}
 use native.Mathlib.Omega.{arith}
 use borrow.Author.Needs.{needs}
 use lib.ListN.{length}
-use Rattle.image.specs.Image.{imaged}
+use Rattle.segment_image.specs.Image.{decodeImage}
 use Rattle.segment_places.proofs.PlaceLaws.{meters-few}
-use Rattle.search.specs.Packing.{keyOf}
+use Rattle.search.specs.ProgramPacking.{keyOf}
 use Rattle.search.proofs.PackLaws.{Mapped, mapped-none, packed-more, packed-all}
 use Rattle.search.proofs.pack.keys_of.Statement.{statement}
 use Rattle.search.proofs.pack.keys_of.Tie as tie
 
 abbrev Inv-loop : tie.InvT-loop
-Inv-loop image keys₀ end i₀ keys i = (i ≤ end) × (end ≤ 64) × (end ≡ length (imaged image .meters)) × (length keys₀ ≡ 64) × Mapped keyOf keys₀ (imaged image .meters) i keys
+Inv-loop image keys₀ end i₀ keys i = (i ≤ end) × (end ≤ 64) × (end ≡ length (decodeImage image .meters)) × (length keys₀ ≡ 64) × Mapped keyOf keys₀ (decodeImage image .meters) i keys
 
 abbrev μ-loop : tie.MeasureT-loop
 μ-loop image keys₀ end i₀ keys i = end - i

@@ -5,17 +5,17 @@ use borrow.Author.Needs.{needs}
 use lib.ListN.{length, take}
 use Rattle.laws.specs.Words.{Every}
 use Rattle.meter.specs.View.{plainMeter}
-use Rattle.image.specs.Image.{imaged}
+use Rattle.segment_image.specs.Image.{decodeImage}
 use Rattle.segment_places.proofs.PlaceLaws.{meters-few}
-use Rattle.search.specs.Packing.{markOf, Bounded}
+use Rattle.search.specs.ProgramPacking.{markOf, Bounded}
 use Rattle.search.proofs.PackLaws.{Mapped, mapped-none, packed-more, packed-all, read-more, read-all}
 use Rattle.search.proofs.pack.marks_of.Statement.{statement}
 use Rattle.search.proofs.pack.marks_of.Tie as tie
 
 abbrev Inv-loop : tie.InvT-loop
 Inv-loop image marks₀ end bus i₀ marks i =
-    (i ≤ end) × (end ≤ 64) × (end ≡ length (imaged image .meters)) × (length marks₀ ≡ 64) × Mapped (markOf (imaged image .baud)) marks₀ (imaged image .meters) i marks
-    × Every Bounded (take i (imaged image .meters))
+    (i ≤ end) × (end ≤ 64) × (end ≡ length (decodeImage image .meters)) × (length marks₀ ≡ 64) × Mapped (markOf (decodeImage image .baud)) marks₀ (decodeImage image .meters) i marks
+    × Every Bounded (take i (decodeImage image .meters))
 
 abbrev μ-loop : tie.MeasureT-loop
 μ-loop image marks₀ end bus i₀ marks i = end - i

@@ -1,4 +1,4 @@
-use Rattle.search.specs.Packing.{recordIn}
+use Rattle.search.specs.ProgramPacking.{recordIn}
 use borrow.Author.Needs.{needs}
 use Rattle.search.proofs.pack.record_of.Statement.{statement}
 use Rattle.search.proofs.pack.record_of.Tie as tie

@@ -3,8 +3,8 @@ use Prim.Native.Nat.{_-_, _≤_, min}
 use native.Mathlib.Omega.{arith}
 use borrow.Author.Needs.{needs}
 use lib.ListN.{length}
-use Rattle.scenarios.specs.Opening.{capacity}
-use Rattle.search.specs.Packing.{recordIn}
+use Rattle.list_open.specs.Opening.{capacity}
+use Rattle.search.specs.ProgramPacking.{recordIn}
 use Rattle.search.proofs.PackLaws.{Mapped, mapped-none, mapped-more, mapped-first}
 use Rattle.search.proofs.pack.records_of.Statement.{statement}
 use Rattle.search.proofs.pack.records_of.Tie as tie

@@ -4,15 +4,15 @@ use native.Mathlib.Omega.{arith}
 use borrow.Author.Needs.{needs}
 use lib.ListN.{length, getD}
 use Rattle.meter.specs.View.{plainMeter}
-use Rattle.image.specs.Image.{imaged}
+use Rattle.segment_image.specs.Image.{decodeImage}
 use Rattle.segment_places.proofs.PlaceLaws.{meters-few}
-use Rattle.search.specs.Packing.{seenAs}
+use Rattle.search.specs.ProgramPacking.{seenAs}
 use Rattle.search.proofs.PackLaws.{Unmarked, unmarked-none, unmarked-more, unmarked-all}
 use Rattle.search.proofs.pack.unmark_all.Statement.{statement}
 use Rattle.search.proofs.pack.unmark_all.Tie as tie
 
 abbrev Inv-loop : tie.InvT-loop
-Inv-loop image₀ marks end bus i₀ image i = (i ≤ end) × (end ≤ 64) × (end ≡ length (imaged image₀ .meters)) × (length marks ≡ 64) × Unmarked marks image₀ i image
+Inv-loop image₀ marks end bus i₀ image i = (i ≤ end) × (end ≤ 64) × (end ≡ length (decodeImage image₀ .meters)) × (length marks ≡ 64) × Unmarked marks image₀ i image
 
 abbrev μ-loop : tie.MeasureT-loop
 μ-loop image₀ marks end bus i₀ image i = end - i

@@ -1,5 +1,5 @@
 use mathlib.Core.Path.{refl}
-use Rattle.scenarios.specs.Opening.{capacity}
+use Rattle.list_open.specs.Opening.{capacity}
 use Rattle.search.proofs.pack.zeros.Statement.{statement}
 use Rattle.search.proofs.pack.zeros.Tie as tie
 

@@ -1,7 +1,7 @@
 use borrow.Author.Needs.{needs}
 use mathlib.Core.Path.{sym, ap, _∙_}
 use Prim.Native.Nat.{min}
-use Rattle.scenarios.specs.Opening.{capacity}
+use Rattle.list_open.specs.Opening.{capacity}
 use Rattle.segment_places.proofs.PlaceLaws.{meters-count}
 use Rattle.segment_places.proofs.head.count_of.Statement.{statement}
 use Rattle.segment_places.proofs.head.count_of.Tie as tie

@@ -3,7 +3,7 @@ use mathlib.Core.Path.{ap, _∙_}
 use native.Mathlib.Omega.{arith}
 use lib.Ieee.{binary64, ofBits}
 use Rattle.numbers.proofs.NumberLaws.{number-add}
-use Rattle.image.specs.Image.{imaged}
+use Rattle.segment_image.specs.Image.{decodeImage}
 use Rattle.segment_places.proofs.head.origin_of.Statement.{statement}
 use Rattle.segment_places.proofs.head.origin_of.Tie as tie
 
@@ -29,7 +29,7 @@ f64-from-bits-requires : tie.Need-f64-from-bits-requires
 f64-from-bits-requires c κs = search needs
 
 returns : tie.Need-returns
-unfolding imaged
+unfolding decodeImage
 returns c =
     let bs = c .before .before .before .args .image .now in
     c .f64-from-bits .ensures ∙ ap (ofBits binary64) (omega (arith, c .before .before .four-at .ensures, c .before .four-at2 .ensures, number-add 4 4 4 bs))

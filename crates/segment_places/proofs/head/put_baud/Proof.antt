@@ -2,9 +2,9 @@ use borrow.Author.Needs.{needs}
 use mathlib.Core.Path.{_≡_, sym, ap, subst, _∙_}
 use lib.ListN.{length}
 use lib.Seq.{paste}
-use Rattle.image.specs.Image.{imaged}
-use Rattle.segment_places.specs.Becomes.{Becomes}
-use Rattle.bus.specs.Plain.{withBaud}
+use Rattle.segment_image.specs.Image.{decodeImage}
+use Rattle.segment_places.specs.ProgramBecomes.{Becomes}
+use Rattle.segment.specs.Plain.{withBaud}
 use Rattle.segment_places.proofs.BaudLaws.{baud-becomes}
 use Rattle.segment_places.proofs.head.put_baud.Statement.{statement}
 use Rattle.segment_places.proofs.head.put_baud.Tie as tie
@@ -25,7 +25,7 @@ returns c =
     let l = s .args .image .now in
     let long : length l ≡ 5974 = search needs in
     let w : length (b .le4 .result) ≡ 4 = search needs in
-    subst (Becomes l (withBaud (s .args .baud) (imaged l))) (sym (c .put .ensures ∙ ap (paste l 0 (b .le4 .result)) w ∙ ap (λ x. paste l 0 x 4) (b .le4 .ensures)))
+    subst (Becomes l (withBaud (s .args .baud) (decodeImage l))) (sym (c .put .ensures ∙ ap (paste l 0 (b .le4 .result)) w ∙ ap (λ x. paste l 0 x 4) (b .le4 .ensures)))
     (baud-becomes l long (s .args .baud) (search needs))
 
 pub put-baud-spec : {M : Type 1} → statement M

@@ -1,7 +1,7 @@
 use mathlib.Core.Path.{ap}
 use native.Mathlib.Omega.{arith}
-use Rattle.bus.specs.Plain.{withInput}
-use Rattle.image.specs.Image.{imaged}
+use Rattle.segment.specs.Plain.{withInput}
+use Rattle.segment_image.specs.Image.{decodeImage}
 use Rattle.segment_places.proofs.Becoming.{becomes-same, becomes-as}
 use Rattle.segment_places.proofs.QueueLaws.{none-left}
 use borrow.Author.Needs.{needs}
@@ -28,7 +28,7 @@ returns c = search needs
 
 returns-2 : tie.Need-returns-2
 returns-2 c =
-    let s = imaged (c .before .before .before .args .image .now) in
+    let s = decodeImage (c .before .before .before .args .image .now) in
     becomes-as (ap (λ xs. withInput xs s) (none-left (s .input) (omega (arith, c .before .waiting-of .ensures)))) becomes-same
 
 pub discard-spec : {M : Type 1} → statement M

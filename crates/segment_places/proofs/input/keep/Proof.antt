@@ -3,8 +3,8 @@ use native.Mathlib.Omega.{arith}
 use lib.ListN.{length, take}
 use lib.Seq.{length-take-le}
 use Rattle.segment_places.proofs.QueueLaws.{take-least}
-use Rattle.bus.specs.Plain.{withInput}
-use Rattle.image.specs.Image.{imaged}
+use Rattle.segment.specs.Plain.{withInput}
+use Rattle.segment_image.specs.Image.{decodeImage}
 use Rattle.segment_places.proofs.Becoming.{becomes-as}
 use borrow.Author.Needs.{needs}
 use Rattle.segment_places.proofs.input.keep.Statement.{statement}
@@ -25,7 +25,7 @@ returns : tie.Need-returns
 returns c =
     let n = c .before .before .before .least in
     let a = c .before .before .before .before .before .args in
-    becomes-as (ap (λ xs. withInput xs (imaged (a .image .now))) (take-least 260 (n .result) (a .rest .now) (n .ensures))) (c .put-input .ensures)
+    becomes-as (ap (λ xs. withInput xs (decodeImage (a .image .now))) (take-least 260 (n .result) (a .rest .now) (n .ensures))) (c .put-input .ensures)
 
 pub keep-spec : {M : Type 1} → statement M
 keep-spec =

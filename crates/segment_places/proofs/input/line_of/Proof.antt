@@ -5,7 +5,7 @@ use Prim.Native.Nat.{_+_, _-_}
 use native.Mathlib.Omega.{arith}
 use lib.ListN.{length, take, drop}
 use lib.Seq.{paste}
-use Rattle.image.specs.Image.{imaged}
+use Rattle.segment_image.specs.Image.{decodeImage}
 use Rattle.segment_places.proofs.PlaceLaws.{input-short}
 use Rattle.segment_places.proofs.LineLaws.{input-is, line-long, line-is}
 use Rattle.segment_places.proofs.input.line_of.Statement.{statement}
@@ -32,7 +32,7 @@ part-put-end c = omega (arith, input-short (c .before .before .before .before .a
 -- what waits is what is copied first
 waits : (c : tie.After-line)
     → let a = c .before .before .before .before .args in
-    take (18 + a .waiting - 18) (drop 18 (a .image .now)) ≡ imaged (a .image .now) .input
+    take (18 + a .waiting - 18) (drop 18 (a .image .now)) ≡ decodeImage (a .image .now) .input
 waits c =
     let s = c .before .before .before .before in
     input-is (s .args .image .now) (s .args .waiting) (search needs) (s .pre .0)

@@ -2,10 +2,10 @@ use borrow.Author.Needs.{needs}
 use mathlib.Core.Path.{_≡_, refl, sym, ap, subst, _∙_}
 use lib.ListN.{length}
 use lib.Seq.{paste}
-use Rattle.values.specs.Values.{little}
-use Rattle.bus.specs.Plain.{withInput}
-use Rattle.image.specs.Image.{imaged}
-use Rattle.segment_places.specs.Becomes.{Becomes}
+use Rattle.numbers.specs.Values.{little}
+use Rattle.segment.specs.Plain.{withInput}
+use Rattle.segment_image.specs.Image.{decodeImage}
+use Rattle.segment_places.specs.ProgramBecomes.{Becomes}
 use Rattle.segment_places.proofs.QueueLaws.{input-becomes}
 use Rattle.segment_places.proofs.input.put_input.Statement.{statement}
 use Rattle.segment_places.proofs.input.put_input.Tie as tie
@@ -35,7 +35,7 @@ returns c =
     let r = s .args .rest .now in
     let long : length l ≡ 5974 = search needs in
     let w : length (z .nothing .result) ≡ 260 = search needs in
-    subst (Becomes l (withInput r (imaged l)))
+    subst (Becomes l (withInput r (decodeImage l)))
     (sym
     (c .put-two .ensures
     ∙ ap (λ x. paste x 14 (little 2 (length r)) 2)

@@ -5,7 +5,7 @@ use Prim.Native.Nat.{_+_, min}
 use native.Mathlib.Omega.{arith}
 use lib.ListN.{length, take}
 use lib.Seq.{length-take-le}
-use Rattle.image.specs.Image.{imaged}
+use Rattle.segment_image.specs.Image.{decodeImage}
 use Rattle.segment_places.proofs.QueueLaws.{take-least}
 use Rattle.segment_places.proofs.input.with_piece.Statement.{statement}
 use Rattle.segment_places.proofs.input.with_piece.Tie as tie
@@ -30,7 +30,7 @@ returns c =
     let n = c .before .before .before .least in
     let a = c .before .before .before .before .before .args in
     let piece = a .piece .now in
-    let s = imaged (a .image .now) in
+    let s = decodeImage (a .image .now) in
     let w = length-take-le (n .result) piece (omega (arith, n .ensures)) in
     let e : length (s .input) + min (length piece) 1024 ≡ c .before .before .waiting-of .result + length (take (n .result) piece) = omega (arith, n .ensures, w, c .before .before .waiting-of .ensures) in
     ap (λ k. take k (c .line-of .result)) e ∙ c .line-of .ensures ∙ ap (λ x. s .input ++ x) (take-least 1024 (n .result) piece (n .ensures))

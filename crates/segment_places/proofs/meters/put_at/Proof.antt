@@ -4,12 +4,12 @@ use native.Mathlib.Omega.{arith}
 use lib.ListN.{length, set}
 use lib.Seq.{paste}
 use borrow.Author.Needs.{needs}
-use Rattle.scenarios.specs.Opening.{capacity}
+use Rattle.list_open.specs.Opening.{capacity}
 use Rattle.meter.specs.View.{plainMeter}
-use Rattle.meter_image.specs.MeterBytes.{metered}
-use Rattle.bus.specs.Plain.{withMeters}
-use Rattle.image.specs.Image.{imaged}
-use Rattle.segment_places.specs.Becomes.{Becomes}
+use Rattle.segment_image.specs.MeterBytes.{decodeMeter}
+use Rattle.segment.specs.Plain.{withMeters}
+use Rattle.segment_image.specs.Image.{decodeImage}
+use Rattle.segment_places.specs.ProgramBecomes.{Becomes}
 use Rattle.segment_places.proofs.PlaceLaws.{meters-few, meter-becomes}
 use Rattle.segment_places.proofs.meters.put_at.Statement.{statement}
 use Rattle.segment_places.proofs.meters.put_at.Tie as tie
@@ -44,8 +44,8 @@ returns c =
     let said = c .before .before .before .meter-bytes .ensures in
     let long : length l ≡ 5974 = search needs in
     let w : length b ≡ 25 = search needs in
-    subst (Becomes l (withMeters (set (imaged l .meters) (a .i) m) (imaged l))) (sym (c .put .ensures ∙ ap (paste l p b) w ∙ ap (λ x. paste l p x 25) (said .0)))
-    (meter-becomes l long (a .i) m (c .before .before .before .before .pre) (ap metered (sym (said .0)) ∙ said .1))
+    subst (Becomes l (withMeters (set (decodeImage l .meters) (a .i) m) (decodeImage l))) (sym (c .put .ensures ∙ ap (paste l p b) w ∙ ap (λ x. paste l p x 25) (said .0)))
+    (meter-becomes l long (a .i) m (c .before .before .before .before .pre) (ap decodeMeter (sym (said .0)) ∙ said .1))
 
 pub put-at-spec : {M : Type 1} → statement M
 put-at-spec =

@@ -1,8 +1,8 @@
 use mathlib.Core.Path.{sym, ap}
 use native.Mathlib.Omega.{arith}
-use Rattle.bus.specs.Plain.{withMeters}
+use Rattle.segment.specs.Plain.{withMeters}
 use Rattle.meter.specs.View.{plainMeter}
-use Rattle.image.specs.Image.{imaged}
+use Rattle.segment_image.specs.Image.{decodeImage}
 use Rattle.segment_places.proofs.Becoming.{becomes-same, becomes-as}
 use Rattle.segment_places.proofs.PlaceLaws.{set-past}
 use borrow.Author.Needs.{needs}
@@ -21,7 +21,7 @@ returns c = search needs
 returns-2 : tie.Need-returns-2
 returns-2 c =
     let a = c .before .before .before .args in
-    let s = imaged (a .image .now) in
+    let s = decodeImage (a .image .now) in
     becomes-as (ap (λ ms. withMeters ms s) (sym (set-past (s .meters) (a .i) (plainMeter (a .m)) (omega (arith, c .before .count-of .ensures))))) becomes-same
 
 pub put-meter-spec : {M : Type 1} → statement M

@@ -3,8 +3,8 @@ use Prim.Native.Nat.{ℕ, _+_, _*_, _-_, _≤_}
 use native.Mathlib.Omega.{arith}
 use lib.ListN.{length, take, drop, length-take, length-drop}
 use borrow.Author.Needs.{needs}
-use Rattle.meter_image.specs.MeterBytes.{metered}
-use Rattle.meter_image.proofs.MeterLaws.{enough}
+use Rattle.segment_image.specs.MeterBytes.{decodeMeter}
+use Rattle.segment_image.proofs.MeterByteLaws.{enough}
 use Rattle.segment_places.proofs.meters.read_at.Statement.{statement}
 use Rattle.segment_places.proofs.meters.read_at.Tie as tie
 
@@ -38,7 +38,7 @@ returns c =
     let e : p + 25 - p ≡ 25 = omega arith in
     let part = take (p + 25 - p) (drop p l) in
     let h : 25 ≤ length part = simp (length-take, length-drop) (omega arith) in
-    c .read-meter .ensures ∙ ap metered (enough part h) ∙ ap (λ (k : ℕ). metered (take k (drop p l))) e
+    c .read-meter .ensures ∙ ap decodeMeter (enough part h) ∙ ap (λ (k : ℕ). decodeMeter (take k (drop p l))) e
 
 pub read-at-spec : {M : Type 1} → statement M
 read-at-spec =

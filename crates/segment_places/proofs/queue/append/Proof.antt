@@ -4,8 +4,8 @@ use Prim.Native.Nat.{_+_}
 use native.Mathlib.Omega.{arith}
 use lib.ListN.{length}
 use lib.Seq.{paste}
-use Rattle.values.specs.Values.{little}
-use Rattle.segment_places.specs.Becomes.{Queues}
+use Rattle.numbers.specs.Values.{little}
+use Rattle.segment_places.specs.ProgramBecomes.{Queues}
 use Rattle.segment_places.proofs.PlaceLaws.{queue-short}
 use Rattle.segment_places.proofs.QueueLaws.{queue-becomes, queues-not, queues}
 use borrow.Author.Needs.{needs}

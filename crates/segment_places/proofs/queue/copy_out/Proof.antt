@@ -5,7 +5,7 @@ use Prim.Native.Nat.{_+_, _-_}
 use native.Mathlib.Omega.{arith}
 use lib.ListN.{length, take, drop}
 use lib.Seq.{length-take-le}
-use Rattle.image.specs.Image.{imaged}
+use Rattle.segment_image.specs.Image.{decodeImage}
 use Rattle.segment_places.proofs.PlaceLaws.{queue-short}
 use Rattle.segment_places.proofs.ReceiveLaws.{out-is, lent-is}
 use Rattle.segment_places.proofs.queue.copy_out.Statement.{statement}
@@ -36,7 +36,7 @@ returns c =
     let l = a .image .now in
     let long : length l ≡ 5974 = search needs in
     let out = out-is l (a .n) long (s .pre .0) in
-    let w = ap length out ∙ length-take-le (a .n) (imaged l .queue) (s .pre .0) in
+    let w = ap length out ∙ length-take-le (a .n) (decodeImage l .queue) (s .pre .0) in
     c .before .before .put .ensures ∙ lent-is (a .lent .now) (take (278 + a .n - 278) (drop 278 l)) (a .n) w ∙ ap (λ x. x ++ drop (a .n) (a .lent .now)) out
 
 pub copy-out-spec : {M : Type 1} → statement M

@@ -3,11 +3,11 @@ use mathlib.Core.Path.{_≡_, sym, ap, subst, _∙_}
 use native.Mathlib.Omega.{arith}
 use lib.ListN.{length}
 use lib.Seq.{paste}
-use Rattle.values.specs.Values.{little}
+use Rattle.numbers.specs.Values.{little}
 use mathlib.Core.List.{[]}
-use Rattle.bus.specs.Plain.{withQueue}
-use Rattle.image.specs.Image.{imaged}
-use Rattle.segment_places.specs.Becomes.{Becomes}
+use Rattle.segment.specs.Plain.{withQueue}
+use Rattle.segment_image.specs.Image.{decodeImage}
+use Rattle.segment_places.specs.ProgramBecomes.{Becomes}
 use Rattle.segment_places.proofs.PlaceLaws.{queue-short}
 use Rattle.segment_places.proofs.ReceiveLaws.{clear-becomes}
 use Rattle.segment_places.proofs.queue.empty.Statement.{statement}
@@ -31,7 +31,7 @@ returns c =
     let q = f .before .before in
     let l = q .before .before .args .image .now in
     let long : length l ≡ 5974 = search needs in
-    subst (Becomes l (withQueue [] (imaged l))) (sym (c .put-two .ensures ∙ ap (λ x. paste x 16 (little 2 0) 2) (f .fill .ensures)))
+    subst (Becomes l (withQueue [] (decodeImage l))) (sym (c .put-two .ensures ∙ ap (λ x. paste x 16 (little 2 0) 2) (f .fill .ensures)))
     (clear-becomes l long (q .queued-of .result) (q .queued-of .ensures))
 
 pub empty-spec : {M : Type 1} → statement M

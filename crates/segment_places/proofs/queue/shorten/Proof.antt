@@ -4,10 +4,10 @@ use Prim.Native.Nat.{_+_, _-_}
 use native.Mathlib.Omega.{arith}
 use lib.ListN.{length, drop, replicate}
 use lib.Seq.{paste}
-use Rattle.values.specs.Values.{little}
-use Rattle.bus.specs.Plain.{withQueue}
-use Rattle.image.specs.Image.{imaged}
-use Rattle.segment_places.specs.Becomes.{Becomes}
+use Rattle.numbers.specs.Values.{little}
+use Rattle.segment.specs.Plain.{withQueue}
+use Rattle.segment_image.specs.Image.{decodeImage}
+use Rattle.segment_places.specs.ProgramBecomes.{Becomes}
 use Rattle.segment_places.proofs.PlaceLaws.{queue-short}
 use Rattle.segment_places.proofs.ReceiveLaws.{take-becomes}
 use Rattle.segment_places.proofs.queue.shorten.Statement.{statement}
@@ -42,7 +42,7 @@ returns c =
     let l = a .image .now in
     let m = a .queued - a .n in
     let long : length l ≡ 5974 = search needs in
-    subst (Becomes l (withQueue (drop (a .n) (imaged l .queue)) (imaged l)))
+    subst (Becomes l (withQueue (drop (a .n) (decodeImage l .queue)) (decodeImage l)))
     (sym (c .put-two .ensures ∙ ap (λ x. paste x 16 (little 2 m) 2) (f .fill .ensures ∙ ap (λ x. paste x (278 + m) (replicate (a .n) 0) (a .n)) (h .shift .ensures))))
     (take-becomes l long (a .queued) (a .n) (s .pre .0) (s .pre .1))
 

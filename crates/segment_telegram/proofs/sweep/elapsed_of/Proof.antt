@@ -1,5 +1,5 @@
 use mathlib.Core.Path.{ap, _∙_}
-use Rattle.seconds.specs.Seconds.{elapsedOf}
+use Rattle.time_seconds.specs.Seconds.{elapsedOf}
 use borrow.Author.Needs.{needs}
 use Rattle.segment_telegram.proofs.sweep.elapsed_of.Statement.{statement}
 use Rattle.segment_telegram.proofs.sweep.elapsed_of.Tie as tie

@@ -4,10 +4,10 @@ use Prim.Native.Nat.{_+_, _*_}
 use native.Mathlib.Omega.{arith}
 use Rattle.laws.specs.Words.{at}
 use Rattle.numbers.specs.Number.{number}
-use Rattle.identity.specs.Identity.{digitsOf}
-use Rattle.meter_concern.specs.Concern.{concerns}
-use Rattle.meter_image.specs.MeterBytes.{flagBy, metered}
-use Rattle.image.specs.Image.{block}
+use Rattle.meter_identity.specs.Identity.{digitsOf}
+use Rattle.meter_concern.specs.ProgramConcern.{concerns}
+use Rattle.segment_image.specs.MeterBytes.{flagBy, decodeMeter}
+use Rattle.segment_image.specs.Image.{block}
 use Rattle.segment_places.proofs.HeadLaws.{id-bytes, at-block, number-block}
 use borrow.Author.Needs.{needs}
 use Rattle.segment_telegram.proofs.sweep.is_sought.Statement.{statement}
@@ -74,7 +74,7 @@ is-sought-requires : tie.Need-is-sought-requires
 is-sought-requires c κs = search needs
 
 returns : tie.Need-returns
-unfolding metered
+unfolding decodeMeter
 returns c =
     let a = c .before .before .before .before .before .before .before .before .before .before .args in
     let l = a .image .now in

@@ -4,19 +4,19 @@ use mathlib.Core.List.{[], _∷_}
 use denote.Ref.{now}
 use lib.ListN.{set}
 use Rattle.frame.specs.View.{telegramOf}
-use Rattle.seconds.specs.Seconds.{elapsedOf}
+use Rattle.time_seconds.specs.Seconds.{elapsedOf}
 use Rattle.meter.specs.PlainMeter.{PlainMeter}
 use Rattle.meter.specs.View.{plainMeter}
-use Rattle.hear.specs.declared.Answer.{Answer}
-use Rattle.hear.specs.declared.Answer.the-variants.{Silent, Ack, Readout}
-use Rattle.readout.specs.Response.{readout}
-use Rattle.hear.specs.Hear.{Heard, hear}
-use Rattle.hear.specs.View.{replyOf, heardOf}
-use Rattle.replies.proofs.JoiningLaws.{joins-acked, joins-replied, joins-as, joins-still}
+use Rattle.meter_step.specs.declared.Answer.{Answer}
+use Rattle.meter_step.specs.declared.Answer.the-variants.{Silent, Ack, Readout}
+use Rattle.meter_reply.specs.Response.{readout}
+use Rattle.meter_step.specs.Hear.{Heard, hear}
+use Rattle.meter_step.specs.View.{replyOf, heardOf}
+use Rattle.segment_replies.proofs.JoiningLaws.{joins-acked, joins-replied, joins-as, joins-still}
 use Rattle.segment_telegram.specs.Handled.{withReply, replies}
-use Rattle.image.specs.Image.{imaged}
-use Rattle.bus.specs.Plain.{Plain, withMeters}
-use Rattle.segment_places.specs.Becomes.{meterIn, Becomes}
+use Rattle.segment_image.specs.Image.{decodeImage}
+use Rattle.segment.specs.Plain.{Plain, withMeters}
+use Rattle.segment_places.specs.ProgramBecomes.{meterIn, Becomes}
 use Rattle.segment_places.proofs.Becoming.{becomes-as}
 use Rattle.segment_telegram.proofs.sweep.step.Statement.{statement}
 use Rattle.segment_telegram.proofs.sweep.step.Tie as tie
@@ -34,35 +34,35 @@ put-meter-requires c κs = search needs
 abbrev way : (c : tie.After-put-meter) → PlainMeter → Heard
 way c =
     let a = c .before .before .before .before .before .before .before .args in
-    hear (a .bus) (telegramOf (a .frame) (now (a .«data»))) (elapsedOf (a .clock .now) (imaged (a .image .now) .origin)) (a .clock)
+    hear (a .bus) (telegramOf (a .frame) (now (a .«data»))) (elapsedOf (a .clock .now) (decodeImage (a .image .now) .origin)) (a .clock)
 
 -- the meter at its place heard it
 heard : (c : tie.After-put-meter)
     → let a = c .before .before .before .before .before .before .before .args in
-    heardOf (elapsedOf (a .clock .now) (imaged (a .image .now) .origin)) (a .clock) (c .before .before .before .hear .result) ≡ way c (meterIn (a .i) (a .image .now))
+    heardOf (elapsedOf (a .clock .now) (decodeImage (a .image .now) .origin)) (a .clock) (c .before .before .before .hear .result) ≡ way c (meterIn (a .i) (a .image .now))
 heard c =
     let a = c .before .before .before .before .before .before .before .args in
-    c .before .before .before .hear .ensures (elapsedOf (a .clock .now) (imaged (a .image .now) .origin)) (a .clock) ∙ ap (way c) (c .before .before .before .before .meter-at .ensures)
+    c .before .before .before .hear .ensures (elapsedOf (a .clock .now) (decodeImage (a .image .now) .origin)) (a .clock) ∙ ap (way c) (c .before .before .before .before .meter-at .ensures)
 
 -- the replies that this adds, by the answer
 said : (c : tie.After-put-meter) (answer : Answer)
     → let a = c .before .before .before .before .before .before .before .args in
     let h = c .before .before .before .hear .result in
-    h .answer ≡ answer → withReply (replyOf answer (elapsedOf (a .clock .now) (imaged (a .image .now) .origin)) (a .clock) (plainMeter (h .meter))) [] ≡ replies (way c (meterIn (a .i) (a .image .now)) ∷ [])
+    h .answer ≡ answer → withReply (replyOf answer (elapsedOf (a .clock .now) (decodeImage (a .image .now) .origin)) (a .clock) (plainMeter (h .meter))) [] ≡ replies (way c (meterIn (a .i) (a .image .now)) ∷ [])
 said c answer e =
     let a = c .before .before .before .before .before .before .before .args in
     let h = c .before .before .before .hear .result in
-    ap (λ x. withReply (replyOf x (elapsedOf (a .clock .now) (imaged (a .image .now) .origin)) (a .clock) (plainMeter (h .meter))) []) (sym e) ∙ ap (λ x. replies (x ∷ [])) (heard c)
+    ap (λ x. withReply (replyOf x (elapsedOf (a .clock .now) (decodeImage (a .image .now) .origin)) (a .clock) (plainMeter (h .meter))) []) (sym e) ∙ ap (λ x. replies (x ∷ [])) (heard c)
 
 -- the image with the meter put back
 changed : (c : tie.After-put-meter)
     → let a = c .before .before .before .before .before .before .before .args in
     let l = a .image .now in
-    Becomes l (withMeters (set (imaged l .meters) (a .i) (way c (meterIn (a .i) l) .meter)) (imaged l)) (c .put-meter .last .0)
+    Becomes l (withMeters (set (decodeImage l .meters) (a .i) (way c (meterIn (a .i) l) .meter)) (decodeImage l)) (c .put-meter .last .0)
 changed c =
     let a = c .before .before .before .before .before .before .before .args in
     let l = a .image .now in
-    becomes-as (ap (λ x. withMeters (set (imaged l .meters) (a .i) (x .meter)) (imaged l)) (heard c)) (c .put-meter .ensures)
+    becomes-as (ap (λ x. withMeters (set (decodeImage l .meters) (a .i) (x .meter)) (decodeImage l)) (heard c)) (c .put-meter .ensures)
 
 enum-told : tie.Need-enum-told
 enum-told c = search needs

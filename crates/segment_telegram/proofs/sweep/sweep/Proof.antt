@@ -4,10 +4,10 @@ use native.Mathlib.Omega.{arith}
 use denote.Ref.{now}
 use lib.ListN.{length}
 use Rattle.frame.specs.View.{telegramOf}
-use Rattle.seconds.specs.Seconds.{elapsedOf}
-use Rattle.hear.specs.Hear.{hear}
+use Rattle.time_seconds.specs.Seconds.{elapsedOf}
+use Rattle.meter_step.specs.Hear.{hear}
 use Rattle.meter_concern.proofs.ConcernLaws.{unconcerned}
-use Rattle.image.specs.Image.{imaged}
+use Rattle.segment_image.specs.Image.{decodeImage}
 use Rattle.segment_places.proofs.PlaceLaws.{meters-few}
 use Rattle.segment_telegram.proofs.SweepLaws.{Sweeping, sweeping-origin, part-as, sweeping-none, sweeping-few, sweeping-more, sweeping-skip, sweeping-all}
 use Rattle.segment_telegram.proofs.sweep.sweep.Statement.{statement}
@@ -15,7 +15,7 @@ use Rattle.segment_telegram.proofs.sweep.sweep.Tie as tie
 
 abbrev Inv-loop : tie.InvT-loop
 Inv-loop image₀ joined₀ frame «data» clock q bus end kept₀ i₀ image joined kept i =
-    (i ≤ end) × (end ≡ length (imaged image₀ .meters)) × Sweeping (hear bus (telegramOf frame «data») (elapsedOf (clock .now) (imaged image₀ .origin)) clock) image₀ i image kept joined
+    (i ≤ end) × (end ≡ length (decodeImage image₀ .meters)) × Sweeping (hear bus (telegramOf frame «data») (elapsedOf (clock .now) (decodeImage image₀ .origin)) clock) image₀ i image kept joined
 
 abbrev μ-loop : tie.MeasureT-loop
 μ-loop image₀ joined₀ frame «data» clock q bus end kept₀ i₀ image joined kept i = end - i
@@ -81,7 +81,7 @@ returns c =
     let a = b .before .before .before .before .args in
     let t = telegramOf (a .frame) (now (a .«data»)) in
     sweeping-all t (a .clock) (at .loop .inv .2) (omega (arith, at .loop .inv .1))
-    (ap (λ x. hear x t (elapsedOf (a .clock .now) (imaged (a .image .now) .origin)) (a .clock)) (b .baud-of .ensures))
+    (ap (λ x. hear x t (elapsedOf (a .clock .now) (decodeImage (a .image .now) .origin)) (a .clock)) (b .baud-of .ensures))
 
 pub sweep-spec : {M : Type 1} → statement M
 sweep-spec =

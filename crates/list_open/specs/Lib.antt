@@ -1,0 +1,3 @@
+pub mod ProgramGather
+pub mod Given
+pub mod Opening

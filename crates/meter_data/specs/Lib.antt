@@ -1,0 +1,3 @@
+pub mod ProgramData
+pub mod UserData
+pub mod View

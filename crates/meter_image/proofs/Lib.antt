@@ -1,2 +1,0 @@
-pub mod MeterLaws
-pub mod Worked

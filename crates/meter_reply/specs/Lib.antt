@@ -1,0 +1,3 @@
+pub mod ProgramReply
+pub mod Response
+pub mod View

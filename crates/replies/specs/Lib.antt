@@ -1,2 +1,0 @@
-pub mod Joining
-pub mod Replies

@@ -1,4 +1,0 @@
-pub mod Check
-pub mod Checked
-pub mod Keys
-pub mod Tables

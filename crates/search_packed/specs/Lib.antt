@@ -1,0 +1,2 @@
+pub mod ProgramMarks
+pub mod ProgramPacked

@@ -1,0 +1,3 @@
+pub mod MeterBytes
+pub mod Answers
+pub mod Image

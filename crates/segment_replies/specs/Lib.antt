@@ -1,0 +1,2 @@
+pub mod ProgramJoining
+pub mod Replies

@@ -1,0 +1,5 @@
+pub mod DoneLaws
+pub mod SendLaws
+pub mod SentLaws
+pub mod TelegramLaws
+pub mod Slips

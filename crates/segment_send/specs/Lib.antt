@@ -1,0 +1,4 @@
+pub mod Send
+pub mod ProgramSend
+pub mod Steps
+pub mod View

@@ -1,4 +1,0 @@
-pub mod Send
-pub mod Settle
-pub mod Steps
-pub mod View

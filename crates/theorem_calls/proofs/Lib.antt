@@ -1,0 +1,11 @@
+pub mod Machine
+pub mod Blocks
+pub mod Loans
+pub mod Beside
+pub mod Arguments
+pub mod Gave
+pub mod Routines
+pub mod Kept
+pub mod Step
+pub mod Every
+pub mod Demand3

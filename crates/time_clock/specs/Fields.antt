@@ -1,0 +1,13 @@
+-- The clock's fields (01, "Send, select, receive"), and when a call takes them.
+use mathlib.Core.Bool.{Bool, _&&_}
+use Rattle.laws.specs.Words.{within}
+use Rattle.time_clock.specs.declared.Clock.{Clock}
+
+-- the clock: year 1970..9999, month 1..12, day 1..31, hour 0..23, minute 0..59
+unfoldable pub goodClock : Clock → Bool
+goodClock k =
+    within 1970 9999 (k .year)
+    && within 1 12 (k .month)
+    && within 1 31 (k .day)
+    && within 0 23 (k .hour)
+    && within 0 59 (k .minute)
