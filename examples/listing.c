@@ -4,42 +4,37 @@
 
 #include "jezynar.h"
 
-enum { LIST_BYTES = 65536, METERS = 64 };
+enum { LIST_LEN = 65536 };
 
-static uint32_t number_at(const uint8_t *bytes)
-{
-    return bytes[0] | (uint32_t)bytes[1] << 8 | (uint32_t)bytes[2] << 16 | (uint32_t)bytes[3] << 24;
-}
-
-static void print_entry(const uint8_t *entry)
+static void print_entry(struct jezynar_entry entry)
 {
     static const char *const words[] = {"one", "mute", "many"};
-    printf("%s ", words[entry[0] - 1]);
-    for (int i = 1; i <= 8; i++)
-        putchar(entry[i] == 15 ? 'F' : '0' + entry[i]);
-    if (entry[0] == 3)
-        printf(" %lu", (unsigned long)number_at(entry + 9));
+    printf("%s %s", words[entry.kind - JEZYNAR_ONE], entry.digits);
+    if (entry.kind == JEZYNAR_MANY)
+        printf(" %lu", (unsigned long)entry.count);
     putchar('\n');
 }
 
 int main(void)
 {
-    static uint8_t image[JEZYNAR_IMAGE], list[LIST_BYTES], entries[METERS * JEZYNAR_ENTRY], summary[JEZYNAR_SUMMARY];
+    static uint8_t image[JEZYNAR_IMAGE_LEN], list[LIST_LEN];
+    static uint8_t entries[JEZYNAR_METERS * JEZYNAR_ENTRY_LEN], summary[JEZYNAR_SUMMARY_LEN];
+    const struct jezynar_clock clock = {0.0, 2026, 10, 1, 0, 0};
     size_t len = fread(list, 1, sizeof list, stdin);
     if (ferror(stdin))
         return 1;
-    segment_new(image);
-    uint32_t refused = segment_open(image, list, len, 2400, false, 0.0);
-    if (refused != 0) {
-        printf("refused %lu\n", (unsigned long)(refused % 256));
+    jezynar_segment_new(image);
+    uint32_t number = jezynar_open_number(jezynar_segment_open(image, list, len, 2400, false, 0.0));
+    if (number != JEZYNAR_ACCEPTED) {
+        printf("refused %lu\n", (unsigned long)number);
         return 0;
     }
-    /* 2026-10-01 00:00, an allowance of 10,000 probes; as many entries lent as there can be meters, so that it is not refused */
-    refused = segment_search(image, 0.0, 2026, 10, 1, 0, 0, 10000, entries, sizeof entries, summary);
-    if (refused != 0)
+    /* As many entries are lent as there can be meters, so that the search is not refused. */
+    if (jezynar_search(image, &clock, 10000, entries, sizeof entries, summary) != JEZYNAR_ACCEPTED)
         return 1;
-    printf("%lu entries, %lu probes\n", (unsigned long)number_at(summary), (unsigned long)number_at(summary + 4));
-    for (uint32_t i = 0; i < number_at(summary); i++)
-        print_entry(entries + i * JEZYNAR_ENTRY);
+    struct jezynar_summary found = jezynar_read_summary(summary);
+    printf("%lu entries, %lu probes\n", (unsigned long)found.entries, (unsigned long)found.probes);
+    for (uint32_t i = 0; i < found.entries; i++)
+        print_entry(jezynar_entry_at(entries, i));
     return 0;
 }

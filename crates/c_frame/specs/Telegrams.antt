@@ -29,7 +29,8 @@ headOf ack = 0 ∷ 0 ∷ 0 ∷ 0 ∷ []
 headOf (short c a) = 1 ∷ c ∷ a ∷ 0 ∷ []
 headOf (long c a ci d) = 2 ∷ c ∷ a ∷ ci ∷ []
 
--- the 16 bytes of a telegram: kind, C, A, CI, how many data bytes and how many bytes used (four bytes each, low byte first), four bytes 0
+-- the 16 bytes of a telegram: kind, C, A, CI, how many data bytes and how many bytes used (four bytes each, low byte
+-- first), four bytes 0
 abbrev pub described : Telegram → ℕ → List ℕ
 described t used = headOf t ++ little 4 (length (dataOf t)) ++ little 4 used ++ 0 ∷ 0 ∷ 0 ∷ 0 ∷ []
 

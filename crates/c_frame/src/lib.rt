@@ -12,6 +12,7 @@ use frame::Frame;
 use frame::ParseOutcome;
 use frame::Why;
 use frame_write::WriteOutcome;
+use laws::refused;
 
 fn why_number(why: Why) -> u32
     ensures { λ r. ⌜ r ≡ whyNumber (whyOf why) ⌝ }
@@ -64,7 +65,8 @@ fn description(head: [u8; 4], count: usize, used: usize) -> [u8; 16]
     ]
 }
 
-// The telegram in front of some bytes: 0 complete, 1 incomplete, 2 to 6 invalid (checksum, stop, header, length, start).
+// The telegram in front of some bytes: 0 complete, 1 incomplete, 2 to 6 invalid (checksum, stop, header, length,
+// start).
 pub fn parse(bytes: &[u8], out: &mut [u8; 16]) -> u32
     ensures { λ r. ⌜ Parses (definitions.parse (now (bytes .entry))) r (now (out .entry)) (now (out .exit)) ⌝ }
 {
@@ -86,15 +88,12 @@ fn frame_by(kind: u8, control: u8, address: u8, ci: u8) -> Frame
         return Frame::Ack;
     }
     if kind == 1 {
-        return Frame::Short {
-            control: control,
-            address: address,
-        };
+        return Frame::Short { control, address };
     }
     Frame::Long {
-        control: control,
-        address: address,
-        ci: ci,
+        control,
+        address,
+        ci,
     }
 }
 
@@ -105,8 +104,8 @@ fn packed_written(w: WriteOutcome) -> u32
 {
     match w {
         WriteOutcome::Bytes(n) => n as u32,
-        WriteOutcome::DataTooLong => 11 * 65536,
-        WriteOutcome::NoRoom => 12 * 65536,
+        WriteOutcome::DataTooLong => refused::DATA * 65536,
+        WriteOutcome::NoRoom => refused::ROOM * 65536,
     }
 }
 

@@ -1,4 +1,5 @@
--- A search on an image: what it answers, and what it writes into the lent bytes. The words are the program's; the search is 01's (search, specs/SearchCall.antt).
+-- A search on an image: what it answers, and what it writes into the lent bytes. The words are the program's; the
+-- search is 01's (search, specs/SearchCall.antt).
 use mathlib.Core.Path.{_≡_}
 use mathlib.Core.Bool.{Bool}
 use mathlib.Core.List.{List, [], _∷_, _++_}
@@ -39,7 +40,8 @@ recordsFor entries = replicate (length entries / 16) noEntry
 unfoldable pub searchBy : Clock → ℕ → List ℕ → Plain → Searched
 searchBy k allowance entries s = searchCall k allowance (recordsFor entries) s
 
--- The answer is the search's number, the image means its segment, its entries are the first of the lent bytes, further ones stay.
+-- The answer is the search's number, the image means its segment, its entries are the first of the lent bytes,
+-- further ones stay.
 -- An image that was the one image of its segment is so afterwards.
 -- Where the number is 0 the summary is written; else every byte of the image, of the entries and of the summary stays.
 pub record Searches (want : Searched) (number : ℕ) (image image₁ entries entries₁ summary summary₁ : List ℕ) : Type 0 where

@@ -49,16 +49,12 @@ fn entry_bytes(e: EntryRecord) -> [u8; 16]
     ]
 }
 
-// The first n bytes of `from` go into `to` from `p` on.
-fn copy(from: &[u8], n: usize, to: &mut [u8], p: usize)
-    requires { ⌜ (n ≤ length (now from)) × (p + n ≤ length (now to)) ⌝ }
-    ensures { λ _. ⌜ now (to .exit) ≡ paste (now (to .entry)) p (now (from .entry)) n ⌝ }
+// Some bytes over those from p on.
+fn put(lent: &mut [u8], p: usize, bytes: &[u8])
+    requires { ⌜ p + length (now bytes) ≤ length (now lent) ⌝ }
+    ensures { λ _. ⌜ now (lent .exit) ≡ paste (now (lent .entry)) p (now (bytes .entry)) (length (now (bytes .entry))) ⌝ }
 {
-    let mut j: usize = 0;
-    while j < n {
-        to[p + j] = from[j];
-        j += 1;
-    }
+    bytes::copy(bytes, &mut lent[p..]);
 }
 
 // The first count entries, 16 bytes each; the bytes past them stay.
@@ -70,7 +66,7 @@ pub(crate) fn write_entries(found: [EntryRecord; METERS], count: usize, lent: &m
     while i < count {
         let e = found[i];
         let b = entry_bytes(e);
-        copy(&b, 16, lent, 16 * i);
+        put(lent, 16 * i, &b);
         i += 1;
     }
 }

@@ -10,26 +10,13 @@ mod entries; // entries.rt: the entries of a search and its summary, as bytes
 // 14: a clock field out of range; 16: input or queue not empty; 17: fewer entries lent than meters opened.
 pub fn search_image(
     image: &mut [u8; IMAGE],
-    secs: f64,
-    year: u32,
-    month: u32,
-    day: u32,
-    hour: u32,
-    minute: u32,
+    clock: Clock,
     allowance: u32,
     entries: &mut [u8],
     summary: &mut [u8; 12],
 ) -> u32
-    ensures { λ r. ⌜ Searches (searchBy (record { now = secs; year = year; month = month; day = day; hour = hour; minute = minute }) allowance (now (entries .entry)) (decodeImage (now (image .entry)))) r (now (image .entry)) (now (image .exit)) (now (entries .entry)) (now (entries .exit)) (now (summary .entry)) (now (summary .exit)) ⌝ }
+    ensures { λ r. ⌜ Searches (searchBy clock allowance (now (entries .entry)) (decodeImage (now (image .entry)))) r (now (image .entry)) (now (image .exit)) (now (entries .entry)) (now (entries .exit)) (now (summary .entry)) (now (summary .exit)) ⌝ }
 {
-    let clock = Clock {
-        now: secs,
-        year: year,
-        month: month,
-        day: day,
-        hour: hour,
-        minute: minute,
-    };
     let room = entries.len() / 16;
     let found = search::search_listed(image, clock, allowance, room);
     let outcome = found.outcome;

@@ -4,3 +4,4 @@ pub mod RoundTrip
 pub mod Theorems
 pub mod Waiting
 pub mod Worked
+pub mod WorkedMaster

@@ -5,6 +5,7 @@ use Prim.Native.Nat.{ℕ, _+_, _-_, _%_}
 use lib.Dec.{eqb, ltb}
 use lib.ListN.{length, take, drop}
 use Rattle.laws.specs.Words.{if_then_else_, at}
+use Rattle.frame.specs.Protocol.{ackByte, startShort, startLong, stopByte}
 
 -- ACK; short, with C and A; long, with C, A, CI and data
 pub data Telegram : Type 0 where
@@ -28,11 +29,12 @@ added (b ∷ bs) = b + added bs
 unfoldable pub sum : List ℕ → ℕ
 sum bs = added bs % 256
 
--- ACK is E5. Short: 10 C A sum 16. Long: 68 L L 68 C A CI data sum 16, L = data length + 3; the sum is over C, A, CI, data
+-- ACK is E5. Short: 10 C A sum 16. Long: 68 L L 68 C A CI data sum 16, L = data length + 3; the sum is over C, A, CI,
+-- data
 unfoldable pub encode : Telegram → List ℕ
-encode ack = 0xE5 ∷ []
-encode (short c a) = 0x10 ∷ c ∷ a ∷ sum (c ∷ a ∷ []) ∷ 0x16 ∷ []
-encode (long c a ci d) = 0x68 ∷ (length d + 3) ∷ (length d + 3) ∷ 0x68 ∷ c ∷ a ∷ ci ∷ (d ++ sum (c ∷ a ∷ ci ∷ d) ∷ 0x16 ∷ [])
+encode ack = ackByte ∷ []
+encode (short c a) = startShort ∷ c ∷ a ∷ sum (c ∷ a ∷ []) ∷ stopByte ∷ []
+encode (long c a ci d) = startLong ∷ (length d + 3) ∷ (length d + 3) ∷ startLong ∷ c ∷ a ∷ ci ∷ (d ++ sum (c ∷ a ∷ ci ∷ d) ∷ stopByte ∷ [])
 
 -- ---- parse, in its order
 
@@ -46,35 +48,35 @@ pub data Parsed : Type 0 where
   incomplete : Parsed
   invalid : Why → Parsed
 
--- short: under 5 bytes incomplete; checksum, stop
+-- short: under 5 bytes incomplete; checksum, stop (16)
 unfoldable pub parseShort : List ℕ → Parsed
 parseShort bs =
     if ltb (length bs) 5 then incomplete else
     if not (eqb (at bs 3) (sum (at bs 1 ∷ at bs 2 ∷ []))) then invalid checksum else
-    if not (eqb (at bs 4) 0x16) then invalid stop else
+    if not (eqb (at bs 4) stopByte) then invalid stop else
     complete (short (at bs 1) (at bs 2)) 5
 
 -- long, with all of its bytes there: checksum, stop
 unfoldable pub parseBody : ℕ → List ℕ → Parsed
 parseBody l bs =
     if not (eqb (at bs (4 + l)) (sum (take l (drop 4 bs)))) then invalid checksum else
-    if not (eqb (at bs (5 + l)) 0x16) then invalid stop else
+    if not (eqb (at bs (5 + l)) stopByte) then invalid stop else
     complete (long (at bs 4) (at bs 5) (at bs 6) (take (l - 3) (drop 7 bs))) (l + 6)
 
--- long: under 4 bytes incomplete; header, length below 3, incomplete, and the rest
+-- long: under 4 bytes incomplete; header (the length twice, then 68), length below 3, incomplete, and the rest
 unfoldable pub parseLong : List ℕ → Parsed
 parseLong bs =
     if ltb (length bs) 4 then incomplete else
-    if not (eqb (at bs 2) (at bs 1) && eqb (at bs 3) 0x68) then invalid header else
+    if not (eqb (at bs 2) (at bs 1) && eqb (at bs 3) startLong) then invalid header else
     if ltb (at bs 1) 3 then invalid badLength else
     if ltb (length bs) (at bs 1 + 6) then incomplete else
     parseBody (at bs 1) bs
 
--- by the first byte; any other first byte is invalid
+-- by the first byte, E5, 10 or 68; any other first byte is invalid
 unfoldable pub parse : List ℕ → Parsed
 parse [] = incomplete
 parse (b ∷ bs) =
-    if eqb b 0xE5 then complete ack 1 else
-    if eqb b 0x10 then parseShort (b ∷ bs) else
-    if eqb b 0x68 then parseLong (b ∷ bs) else
+    if eqb b ackByte then complete ack 1 else
+    if eqb b startShort then parseShort (b ∷ bs) else
+    if eqb b startLong then parseLong (b ∷ bs) else
     invalid start

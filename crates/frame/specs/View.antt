@@ -46,7 +46,8 @@ dataLength (complete t n) = length (dataOf t)
 dataLength incomplete = 0
 dataLength (invalid w) = 0
 
--- r tells what parsing bs finds, which is p; and the number of data bytes also of an ACK and a short telegram, where no data show it
+-- r tells what parsing bs finds, which is p; and the number of data bytes also of an ACK and a short telegram, where
+-- no data show it
 pub record Finds (bs : List ℕ) (p : Parsed) (r : ParseOutcome) : Type 0 where
   pub tells : parsedOf bs r ≡ p
   pub counts : lengthTold r ≡ dataLength p

@@ -4,8 +4,35 @@ ghost use Rattle.frame.specs.Frame.{sum, parseShort, parseLong};
 ghost use Rattle.frame.specs.View.{dataAt, Finds};
 use laws::least;
 
+// The bytes of the protocol. They are those of specs/Protocol.antt.
+
 // The one byte of an ACK.
 pub const ACK: u8 = 0xE5;
+
+// The first byte of a short telegram; the first and the fourth of a long one; the last of both.
+pub const START_SHORT: u8 = 0x10;
+
+pub const START_LONG: u8 = 0x68;
+
+pub const STOP: u8 = 0x16;
+
+// The control fields of the telegrams that a master sends, and of a meter's answer; the alternation bit.
+pub const C_SND_NKE: u8 = 0x40;
+
+pub const C_SND_UD: u8 = 0x53;
+
+pub const C_REQ_UD2: u8 = 0x5B;
+
+pub const C_RSP_UD: u8 = 0x08;
+
+pub const FCB: u8 = 0x20;
+
+// All bits of a control field but 20 and 10; SND_UD and REQ_UD2 with these bits alone. RSP_UD stays 08.
+pub const C_MASK: u8 = 0xCF;
+
+pub const C_SND_UD_MASKED: u8 = 0x43;
+
+pub const C_REQ_UD2_MASKED: u8 = 0x4B;
 
 // The selected meters; all, which reply; all, which do not reply.
 pub const ADDR_SELECTED: u8 = 0xFD;
@@ -14,11 +41,23 @@ pub const ADDR_BROADCAST_REPLY: u8 = 0xFE;
 
 pub const ADDR_BROADCAST: u8 = 0xFF;
 
+// The CI to a meter: reset, data to be set, select; the first and the last of its eight rates.
 pub const CI_APP_RESET: u8 = 0x50;
 
 pub const CI_DATA_SEND: u8 = 0x51;
 
 pub const CI_SELECT: u8 = 0x52;
+
+pub const CI_FIRST_BAUD: u8 = 0xB8;
+
+pub const CI_LAST_BAUD: u8 = 0xBF;
+
+// The CI from a meter: an error, variable and fixed data.
+pub const CI_ERROR: u8 = 0x70;
+
+pub const CI_VARIABLE: u8 = 0x72;
+
+pub const CI_FIXED: u8 = 0x73;
 
 // A telegram; the data of a long one stand beside it, as a part of a slice.
 pub enum Frame {
@@ -85,7 +124,7 @@ fn parse_short(s: &[u8]) -> ParseOutcome
     if s[3] != std::num::wrapping_add_u8(c, a) {
         return ParseOutcome::Invalid(Why::Checksum);
     }
-    if s[4] != 0x16 {
+    if s[4] != STOP {
         return ParseOutcome::Invalid(Why::Stop);
     }
     ParseOutcome::Complete {
@@ -109,7 +148,7 @@ fn parse_long(s: &[u8]) -> ParseOutcome
     if wide(s[2]) != l {
         return ParseOutcome::Invalid(Why::Header);
     }
-    if s[3] != 0x68 {
+    if s[3] != START_LONG {
         return ParseOutcome::Invalid(Why::Header);
     }
     if l < 3 {
@@ -122,7 +161,7 @@ fn parse_long(s: &[u8]) -> ParseOutcome
     if s[4 + l] != total {
         return ParseOutcome::Invalid(Why::Checksum);
     }
-    if s[5 + l] != 0x16 {
+    if s[5 + l] != STOP {
         return ParseOutcome::Invalid(Why::Stop);
     }
     ParseOutcome::Complete {
@@ -151,10 +190,10 @@ pub fn parse(s: &[u8]) -> ParseOutcome
             used: 1,
         };
     }
-    if b == 0x10 {
+    if b == START_SHORT {
         return parse_short(s);
     }
-    if b == 0x68 {
+    if b == START_LONG {
         return parse_long(s);
     }
     ParseOutcome::Invalid(Why::Start)

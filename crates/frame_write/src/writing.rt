@@ -3,11 +3,15 @@ ghost use mathlib.Core.Path.{_≡_};
 ghost use mathlib.Core.List.{[], _∷_, _++_};
 ghost use Prim.Native.Nat.{_+_, _≤_};
 ghost use lib.ListN.{length, take, drop};
+ghost use Rattle.frame.specs.Protocol.{startLong, stopByte};
 ghost use Rattle.frame.specs.Frame.{ack, short, long, sum};
 ghost use Rattle.frame_write.specs.Writer.{write};
 ghost use Rattle.frame_write.specs.View.{writtenOf};
 use crate::WriteOutcome;
 use frame::ACK;
+use frame::START_LONG;
+use frame::START_SHORT;
+use frame::STOP;
 use frame::checksum;
 
 // Each `put_` function requires that its bytes fit.
@@ -22,22 +26,22 @@ fn put_short(control: u8, address: u8, lent: &mut [u8])
     requires { ⌜ 5 ≤ length (now lent) ⌝ }
     ensures { λ r. ⌜ now (lent .exit) ≡ Rattle.frame.specs.Frame.encode (short control address) ++ drop 5 (now (lent .entry)) ⌝ }
 {
-    lent[0] = 0x10;
+    lent[0] = START_SHORT;
     lent[1] = control;
     lent[2] = address;
     lent[3] = std::num::wrapping_add_u8(control, address);
-    lent[4] = 0x16;
+    lent[4] = STOP;
 }
 
 // The seven bytes before the data.
 fn put_head(l: u8, control: u8, address: u8, ci: u8, lent: &mut [u8])
     requires { ⌜ 7 ≤ length (now lent) ⌝ }
-    ensures { λ r. ⌜ now (lent .exit) ≡ 0x68 ∷ l ∷ l ∷ 0x68 ∷ control ∷ address ∷ ci ∷ drop 7 (now (lent .entry)) ⌝ }
+    ensures { λ r. ⌜ now (lent .exit) ≡ startLong ∷ l ∷ l ∷ startLong ∷ control ∷ address ∷ ci ∷ drop 7 (now (lent .entry)) ⌝ }
 {
-    lent[0] = 0x68;
+    lent[0] = START_LONG;
     lent[1] = l;
     lent[2] = l;
-    lent[3] = 0x68;
+    lent[3] = START_LONG;
     lent[4] = control;
     lent[5] = address;
     lent[6] = ci;
@@ -48,20 +52,16 @@ fn put_data(data: &[u8], lent: &mut [u8], from: usize)
     requires { ⌜ from + length (now «data») ≤ length (now lent) ⌝ }
     ensures { λ r. ⌜ now (lent .exit) ≡ take from (now (lent .entry)) ++ now («data» .entry) ++ drop (from + length (now («data» .entry))) (now (lent .entry)) ⌝ }
 {
-    let mut j: usize = 0;
-    while j < data.len() {
-        lent[from + j] = data[j];
-        j += 1;
-    }
+    bytes::copy(data, &mut lent[from..]);
 }
 
 // The two bytes after the data.
 fn put_end(total: u8, lent: &mut [u8], from: usize)
     requires { ⌜ from + 2 ≤ length (now lent) ⌝ }
-    ensures { λ r. ⌜ now (lent .exit) ≡ take from (now (lent .entry)) ++ total ∷ 0x16 ∷ drop (from + 2) (now (lent .entry)) ⌝ }
+    ensures { λ r. ⌜ now (lent .exit) ≡ take from (now (lent .entry)) ++ total ∷ stopByte ∷ drop (from + 2) (now (lent .entry)) ⌝ }
 {
     lent[from] = total;
-    lent[from + 1] = 0x16;
+    lent[from + 1] = STOP;
 }
 
 // The sum of a long telegram, over C, A, CI and the data.

@@ -5,6 +5,7 @@ ghost use Rattle.frame.specs.Frame;
 ghost use Rattle.frame_write.specs.Writer.{write};
 ghost use Rattle.list_check.specs.Refusals.{refusalNumber, refusalIndex};
 ghost use Rattle.list_open.specs.Opening.{mostMeters};
+ghost use Rattle.time_clock.specs.Fields.{clockAt};
 ghost use Rattle.segment.specs.Plain.{blank};
 ghost use Rattle.segment.specs.Calls;
 ghost use Rattle.segment_send.specs.Send;
@@ -15,13 +16,13 @@ ghost use Rattle.c_frame.specs.Telegrams.{Parses, telegramBy, Writes};
 use list_check::refusal::Refusal;
 use segment::Segment;
 use segment_image::IMAGE;
-use time_clock::Clock;
+use time_clock::clock_at;
 
 const LEN: usize = IMAGE;
 
 // How many bytes an image has.
 #[no_mangle]
-pub extern "C" fn segment_image_len() -> usize
+pub extern "C" fn jezynar_segment_image_len() -> usize
     ensures { λ r. ⌜ r ≡ imageLen ⌝ }
 {
     LEN
@@ -29,7 +30,7 @@ pub extern "C" fn segment_image_len() -> usize
 
 // No meters, 2400 Bd, origin 0.
 #[no_mangle]
-pub extern "C" fn segment_new(image: &mut [u8; IMAGE])
+pub extern "C" fn jezynar_segment_new(image: &mut [u8; IMAGE])
     ensures { λ _. ⌜ IsImage blank (now (image .exit)) ⌝ }
 {
     let fresh = Segment::new();
@@ -38,7 +39,7 @@ pub extern "C" fn segment_new(image: &mut [u8; IMAGE])
 
 // The one image of the segment that the bytes mean, in their place.
 #[no_mangle]
-pub extern "C" fn segment_tidy(image: &mut [u8; IMAGE])
+pub extern "C" fn jezynar_segment_tidy(image: &mut [u8; IMAGE])
     ensures { λ _. ⌜ IsImage (decodeImage (now (image .entry))) (now (image .exit)) ⌝ }
 {
     segment_image::tidy(image)
@@ -46,7 +47,7 @@ pub extern "C" fn segment_tidy(image: &mut [u8; IMAGE])
 
 // Empties the queue alone.
 #[no_mangle]
-pub extern "C" fn segment_clear(image: &mut [u8; IMAGE])
+pub extern "C" fn jezynar_segment_clear(image: &mut [u8; IMAGE])
     ensures { λ _. ⌜ LeftImage (Calls.clear (decodeImage (now (image .entry)))) (now (image .entry)) (now (image .exit)) ⌝ }
 {
     segment_calls::clear(image)
@@ -54,7 +55,7 @@ pub extern "C" fn segment_clear(image: &mut [u8; IMAGE])
 
 // Sets the bus baud and empties the input. 10: no rate.
 #[no_mangle]
-pub extern "C" fn segment_set_baud(image: &mut [u8; IMAGE], baud: u32) -> u32
+pub extern "C" fn jezynar_segment_set_baud(image: &mut [u8; IMAGE], baud: u32) -> u32
     ensures { λ r. ⌜ DoneImage (Calls.changeBaud baud (decodeImage (now (image .entry)))) r (now (image .entry)) (now (image .exit)) ⌝ }
 {
     let answer = segment_calls::set_baud(image, baud);
@@ -68,12 +69,12 @@ fn packed(refusal: Refusal) -> u32
 {
     let index = list_check::refusal::refusal_index(refusal);
     let number = list_check::refusal::refusal_number(refusal);
-    number as u32 + 256 * (index as u32)
+    number + 256 * (index as u32)
 }
 
 // Opens the segment of a list. Refused with 1 to 10.
 #[no_mangle]
-pub extern "C" fn segment_open(
+pub extern "C" fn jezynar_segment_open(
     image: &mut [u8; IMAGE],
     list: &[u8],
     baud: u32,
@@ -88,7 +89,7 @@ pub extern "C" fn segment_open(
 
 // Sends a piece at a clock. 13: piece over 1,024; 14: a clock field out of range; 15: queue would pass 4,096.
 #[no_mangle]
-pub extern "C" fn segment_send(
+pub extern "C" fn jezynar_segment_send(
     image: &mut [u8; IMAGE],
     piece: &[u8],
     secs: f64,
@@ -98,23 +99,16 @@ pub extern "C" fn segment_send(
     hour: u32,
     minute: u32,
 ) -> u32
-    ensures { λ r. ⌜ DoneImage (Send.send (now (piece .entry)) (record { now = secs; year = year; month = month; day = day; hour = hour; minute = minute }) (decodeImage (now (image .entry)))) r (now (image .entry)) (now (image .exit)) ⌝ }
+    ensures { λ r. ⌜ DoneImage (Send.send (now (piece .entry)) (clockAt secs year month day hour minute) (decodeImage (now (image .entry)))) r (now (image .entry)) (now (image .exit)) ⌝ }
 {
-    let clock = Clock {
-        now: secs,
-        year: year,
-        month: month,
-        day: day,
-        hour: hour,
-        minute: minute,
-    };
-    let answer = segment_send::send(image, piece, clock);
+    let at = clock_at(secs, year, month, day, hour, minute);
+    let answer = segment_send::send(image, piece, at);
     segment_send::sending_number(answer)
 }
 
 // Hands out the least of 32, the lent length and the queued bytes.
 #[no_mangle]
-pub extern "C" fn segment_receive(image: &mut [u8; IMAGE], lent: &mut [u8]) -> usize
+pub extern "C" fn jezynar_segment_receive(image: &mut [u8; IMAGE], lent: &mut [u8]) -> usize
     ensures { λ r. ⌜ ReceivedImage (Calls.receive (now (lent .entry)) (decodeImage (now (image .entry)))) r (now (lent .exit)) (now (image .entry)) (now (image .exit)) ⌝ }
 {
     segment_calls::receive(image, lent)
@@ -125,7 +119,7 @@ pub extern "C" fn segment_receive(image: &mut [u8; IMAGE], lent: &mut [u8]) -> u
 // Searches with an allowance of probes; 16 lent bytes for each entry.
 // 14: a clock field out of range; 16: input or queue not empty; 17: fewer entries lent than meters opened.
 #[no_mangle]
-pub extern "C" fn segment_search(
+pub extern "C" fn jezynar_segment_search(
     image: &mut [u8; IMAGE],
     secs: f64,
     year: u32,
@@ -137,27 +131,18 @@ pub extern "C" fn segment_search(
     entries: &mut [u8],
     summary: &mut [u8; 12],
 ) -> u32
-    ensures { λ r. ⌜ Searches (searchBy (record { now = secs; year = year; month = month; day = day; hour = hour; minute = minute }) allowance (now (entries .entry)) (decodeImage (now (image .entry)))) r (now (image .entry)) (now (image .exit)) (now (entries .entry)) (now (entries .exit)) (now (summary .entry)) (now (summary .exit)) ⌝ }
+    ensures { λ r. ⌜ Searches (searchBy (clockAt secs year month day hour minute) allowance (now (entries .entry)) (decodeImage (now (image .entry)))) r (now (image .entry)) (now (image .exit)) (now (entries .entry)) (now (entries .exit)) (now (summary .entry)) (now (summary .exit)) ⌝ }
 {
-    c_search::search_image(
-        image,
-        secs,
-        year,
-        month,
-        day,
-        hour,
-        minute,
-        allowance,
-        entries,
-        summary,
-    )
+    let clock = clock_at(secs, year, month, day, hour, minute);
+    c_search::search_image(image, clock, allowance, entries, summary)
 }
 
 // ---- telegrams
 
-// The telegram in front of some bytes: 0 complete, 1 incomplete, 2 to 6 invalid (checksum, stop, header, length, start).
+// The telegram in front of some bytes: 0 complete, 1 incomplete, 2 to 6 invalid (checksum, stop, header, length,
+// start).
 #[no_mangle]
-pub extern "C" fn frame_parse(bytes: &[u8], out: &mut [u8; 16]) -> u32
+pub extern "C" fn jezynar_frame_parse(bytes: &[u8], out: &mut [u8; 16]) -> u32
     ensures { λ r. ⌜ Parses (Rattle.frame.specs.Frame.parse (now (bytes .entry))) r (now (out .entry)) (now (out .exit)) ⌝ }
 {
     c_frame::parse(bytes, out)
@@ -165,7 +150,7 @@ pub extern "C" fn frame_parse(bytes: &[u8], out: &mut [u8; 16]) -> u32
 
 // Writes a telegram. 11: data over 252; 12: lent bytes too few.
 #[no_mangle]
-pub extern "C" fn frame_encode(
+pub extern "C" fn jezynar_frame_encode(
     kind: u8,
     control: u8,
     address: u8,

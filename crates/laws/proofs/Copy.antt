@@ -1,13 +1,14 @@
--- A loop that copies s into d from place at on: its invariant, what a turn adds, the first elements at the end, and what lies past them.
+-- A loop that copies s into d from place at on: its invariant, what a turn adds, the first elements at the end, and
+-- what lies past them.
 -- l is d as it is after j elements.
 use mathlib.Core.Path.{_≡_, sym, ap, _∙_}
-use mathlib.Core.List.{List, [], _∷_, _++_}
+use mathlib.Core.List.{List, [], _∷_, _++_, append-assoc}
 use Prim.Native.Nat.{ℕ, zero, suc, _+_, _-_, _≤_, _<_, min}
 use native.Mathlib.Nat.{zero-add, min-zero, zero-min, suc-min-suc}
 use native.Mathlib.Numerals.{add-one}
 use native.Mathlib.Omega.{arith}
-use lib.ListN.{length, take, drop, set, getD, length-drop}
-use lib.Seq.{paste, paste-zero, paste-suc, take-paste, drop-paste, getD-drop, take-add, drop-at, length-take-le}
+use lib.ListN.{length, take, drop, set, getD, length-drop, take-append-drop}
+use lib.Seq.{paste, paste-zero, paste-suc, take-paste, drop-paste, getD-drop, take-add, drop-at, drop-drop, drop-append-le, take-take, length-take-le}
 
 pub record Copied {A : Type 0} (d : List A) (at : ℕ) (s : List A) (j : ℕ) (l : List A) : Type 0 where
   pub is : l ≡ paste d at s j
@@ -61,3 +62,25 @@ module _ {A : Type 0} where
       let d : drop x s ≡ drop start s = ap (λ (k : ℕ). drop k s) p ∙ drop-min start s in
       let e : y ≡ min len (length (drop start s)) = q ∙ ap (min len) (sym (length-drop x s) ∙ ap length d) in
       ap (λ (k : ℕ). take k (drop x s)) w ∙ ap (take y) d ∙ ap (λ (k : ℕ). take k (drop start s)) e ∙ take-min len (drop start s)
+
+  -- `bytes::copy` of s into what lies from p on, and that back in its place
+  pub copied-into : (d s l : List A) (p : ℕ) → p + length s ≤ length d → l ≡ take (length s) s ++ drop (length s) (take (length d - p) (drop p d)) → take p d ++ (l ++ drop (length d - p) (drop p d)) ≡ paste d p s (length s)
+  copied-into d s l p h e =
+      let n = length s in
+      let k = length d - p in
+      let part = take k (drop p d) in
+      let rest = drop k (drop p d) in
+      let m : length part ≡ k = length-take-le k (drop p d) (rw length-drop (omega arith)) in
+      let q : drop n part ++ rest ≡ drop (p + n) d =
+      sym (drop-append-le n part rest (omega arith)) ∙ ap (drop n) (take-append-drop k (drop p d)) ∙ drop-drop n p d in
+      ap (λ (r : List A). take p d ++ (r ++ rest)) e
+      ∙ ap (λ (r : List A). take p d ++ r) (append-assoc (take n s) (drop n part) rest ∙ ap (λ (r : List A). take n s ++ r) q)
+      ∙ sym (append-assoc (take p d) (take n s) (drop (p + n) d))
+
+  -- the same of s, the first n of x
+  pub copied-part : (d x s l : List A) (p n : ℕ) → s ≡ take n x → n ≤ length x → p + n ≤ length d → l ≡ take (length s) s ++ drop (length s) (take (length d - p) (drop p d)) → take p d ++ (l ++ drop (length d - p) (drop p d)) ≡ paste d p x n
+  copied-part d x s l p n f h fits e =
+      let m : length s ≡ n = ap length f ∙ length-take-le n x h in
+      copied-into d s l p (omega arith) e
+      ∙ ap (paste d p s) m
+      ∙ ap (λ (r : List A). take p d ++ r ++ drop (p + n) d) (ap (take n) f ∙ take-take n n x (omega arith))

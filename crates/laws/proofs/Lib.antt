@@ -1,3 +1,4 @@
+pub mod CodePieces
 pub mod Copy
 pub mod Lists
 pub mod Rows

@@ -1,4 +1,5 @@
--- A loop that replaces the first elements of an array by f of each, and carries a state through them by g: its invariant, a turn, the end.
+-- A loop that replaces the first elements of an array by f of each, and carries a state through them by g: its
+-- invariant, a turn, the end.
 -- xs is the array where the loop began, ms as it is now; s₀ and s are the state then and now.
 use mathlib.Core.Path.{_≡_, refl, sym, ap, _∙_}
 use mathlib.Core.List.{List, [], _∷_, map}

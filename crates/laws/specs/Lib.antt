@@ -1,2 +1,4 @@
+pub mod Ascii
+pub mod Refusal
 pub mod Sweep
 pub mod Words

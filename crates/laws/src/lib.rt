@@ -1,7 +1,9 @@
-// The lesser of two numbers, a test of a range, and a test as a number.
+// The lesser of two numbers, a test of a range, a test as a number, and the numbers of the refusals.
 ghost use mathlib.Core.Path.{_≡_};
 ghost use Prim.Native.Nat.{min, _≤_};
 ghost use Rattle.laws.specs.Words.{bitIf, within};
+
+pub mod refused; // refused.rt: the numbers of 01's places of refusal
 
 pub fn least(a: usize, b: usize) -> usize
     ensures { λ r. ⌜ r ≡ min a b ⌝ }

@@ -1,4 +1,5 @@
--- Reading by positions and reading the list of bytes agree: what stands at a position is the first record of the bytes from there on.
+-- Reading by positions and reading the list of bytes agree: what stands at a position is the first record of the
+-- bytes from there on.
 use mathlib.Core.Path.{_≡_, refl, sym, ap, ap₂, _∙_}
 use mathlib.Core.Bool.{Bool, true, false, _&&_}
 use mathlib.Core.List.{List, [], _∷_}

@@ -1,4 +1,5 @@
--- The meter list's byte layout, read: "A record: one byte, the length of its rest; primary; version; own baud in four bytes big-endian, 0 = the bus's at opening;
+-- The meter list's byte layout, read: "A record: one byte, the length of its rest; primary; version; own baud in four
+-- bytes big-endian, 0 = the bus's at opening;
 -- four texts, each after a length byte: id, manufacturer, medium, fault. The parts fill each length exactly."
 use mathlib.Core.Bool.{_&&_}
 use mathlib.Core.List.{List, [], _∷_}
@@ -54,7 +55,8 @@ made bs (texts ts) (fits rs) =
       fault = getD ts 3 [];
     } ∷ rs)
 
--- one record after another. Each has one byte, the length of its rest, which holds at least the six bytes before the texts.
+-- one record after another. Each has one byte, the length of its rest, which holds at least the six bytes before the
+-- texts.
 -- n bounds the number of records: the number of bytes is enough
 unfoldable pub readRecords : ℕ → List ℕ → Layout
 readRecords zero [] = fits []

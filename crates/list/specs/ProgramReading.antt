@@ -1,4 +1,5 @@
--- The layout read by positions, as the program reads it: what stands at a position of the list's bytes. That the steps give 01's records is proved
+-- The layout read by positions, as the program reads it: what stands at a position of the list's bytes. That the
+-- steps give 01's records is proved
 -- (proofs/Steps, `steps-are-records`).
 use mathlib.Core.Bool.{_&&_, _||_, not}
 use mathlib.Core.List.{List}
@@ -38,7 +39,8 @@ listedOf s r =
 
 -- ---- one record at a position
 
--- where a text ends, within a record that ends at e, whose length byte stands at p. 0: it does not fit, as no text ends at 0
+-- where a text ends, within a record that ends at e, whose length byte stands at p. 0: it does not fit, as no text
+-- ends at 0
 unfoldable pub textEnd : List ℕ → ℕ → ℕ → ℕ
 textEnd s e p = if ltb 0 p && ltb p e && ltb (at s p) (e - p) then p + 1 + at s p else 0
 
@@ -76,7 +78,8 @@ recordTo s a e =
     let fault = textEnd s e medium in
     if eqb fault e then Record (placed s a id manufacturer medium fault) e else Bad
 
--- what stands at a position: past the end nothing; a length that leaves no room for the fixed parts, or that goes past the end, is bad
+-- what stands at a position: past the end nothing; a length that leaves no room for the fixed parts, or that goes
+-- past the end, is bad
 unfoldable pub stepAt : List ℕ → ℕ → Step
 stepAt s a =
     if leb (length s) a then End else
@@ -112,9 +115,3 @@ shapeOf bs =
     if ltb (length bs) 3 || not (eqb (at bs 0) 1) then Unversioned else
     if not (eqb (at bs 1 * 256 + at bs 2) (length bs - 3)) then Unfit else
     shapeOfCount (readRecords (length bs) (drop 3 bs))
-
--- the number of an opening's refusal that the shape is; a list that fits has none
-abbrev pub shapeNumber : Shape → ℕ
-shapeNumber Unversioned = 1
-shapeNumber Unfit = 2
-shapeNumber (Fits n) = 0

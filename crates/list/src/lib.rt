@@ -73,10 +73,7 @@ pub fn next<'a>(r: Reader<'a>) -> Read<'a>
     let step = record_at(r.list, r.at);
     let at = at_of(r.at, step);
     Read {
-        reader: Reader {
-            list: r.list,
-            at: at,
-        },
-        step: step,
+        reader: Reader { list: r.list, at },
+        step,
     }
 }

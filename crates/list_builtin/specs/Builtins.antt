@@ -1,6 +1,8 @@
--- The built-in lists praxis, ok10, mfh30 and bauds: "kept as constant bytes in the list layout, records in the Rust's order, without names".
+-- The built-in lists praxis, ok10, mfh30 and bauds: "kept as constant bytes in the list layout, records in the Rust's
+-- order, without names".
 use mathlib.Core.List.{List, [], _∷_, map}
 use Prim.Native.Nat.{ℕ, _+_, _/_, _%_}
+use Rattle.laws.specs.Ascii.{ascii}
 use Rattle.list.specs.Layout.{Listed}
 use Rattle.list.specs.Written.{writeList}
 use Rattle.list_check.specs.Tables.{Medium, FaultKey, medium-heat, medium-water, medium-cold-water, medium-warm-water, medium-gas, medium-electricity, medium-heat-old, fault-none, fault-checksum, fault-truncated, fault-busy, fault-wrong-address, fault-flaky, fault-too-many}
@@ -12,19 +14,19 @@ unfoldable pub idText : ℕ → List ℕ
 idText n = map (λ d. 0x30 + n / d % 10) (10000000 ∷ 1000000 ∷ 100000 ∷ 10000 ∷ 1000 ∷ 100 ∷ 10 ∷ 1 ∷ [])
 
 abbrev ABB : List ℕ
-ABB = 0x41 ∷ 0x42 ∷ 0x42 ∷ []
+ABB = ascii "ABB"
 
 abbrev ELS : List ℕ
-ELS = 0x45 ∷ 0x4C ∷ 0x53 ∷ []
+ELS = ascii "ELS"
 
 abbrev pub KAM : List ℕ
-KAM = 0x4B ∷ 0x41 ∷ 0x4D ∷ []
+KAM = ascii "KAM"
 
 abbrev pub SEN : List ℕ
-SEN = 0x53 ∷ 0x45 ∷ 0x4E ∷ []
+SEN = ascii "SEN"
 
 abbrev ZRI : List ℕ
-ZRI = 0x5A ∷ 0x52 ∷ 0x49 ∷ []
+ZRI = ascii "ZRI"
 
 -- primary, version, own baud (0: the bus's), id, manufacturer, medium, fault
 abbrev pub meter : ℕ → ℕ → ℕ → ℕ → List ℕ → Medium → FaultKey → Listed

@@ -1,4 +1,5 @@
--- The verdict of `check`, by the rules that hold: one law for each rule that a record fails, and one for a record that passes.
+-- The verdict of `check`, by the rules that hold: one law for each rule that a record fails, and one for a record
+-- that passes.
 use mathlib.Core.Path.{_≡_, refl, sym, ap, _∙_}
 use mathlib.Core.Bool.{Bool, true, false, _||_, not}
 use mathlib.Core.List.{List}

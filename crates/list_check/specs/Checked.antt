@@ -3,6 +3,7 @@ use mathlib.Core.Path.{_≡_}
 use Prim.Native.Nat.{ℕ}
 use lib.Dec.{eqb}
 use Rattle.laws.specs.Words.{if_then_else_}
+use Rattle.laws.specs.Refusal.{notRefused, refusedPrimary, refusedId, refusedManufacturer, refusedMedium, refusedOwnBaud, refusedFault}
 use Rattle.meter_identity.specs.Identity.{manufacturerCode, inBase, decimal}
 use Rattle.list_check.specs.Tables.{media, faults, mediumOf, faultOf}
 use Rattle.list.specs.Layout.{Listed}
@@ -36,30 +37,30 @@ valuesOf r =
 
 -- 4: primary over 250; 5: id; 6: manufacturer; 7: medium; 8: own baud; 9: fault
 abbrev pub failNumber : Failing → ℕ
-failNumber BadPrimary = 4
-failNumber BadId = 5
-failNumber BadManufacturer = 6
-failNumber BadMedium = 7
-failNumber BadBaud = 8
-failNumber BadFault = 9
+failNumber BadPrimary = refusedPrimary
+failNumber BadId = refusedId
+failNumber BadManufacturer = refusedManufacturer
+failNumber BadMedium = refusedMedium
+failNumber BadBaud = refusedOwnBaud
+failNumber BadFault = refusedFault
 
 -- 0: the record passes
 abbrev pub checkNumber : Checked → ℕ
-checkNumber (Passes v) = 0
+checkNumber (Passes v) = notRefused
 checkNumber (Fails f) = failNumber f
 
 -- what has a number of 4 to 9
 abbrev pub failingOf : ℕ → Failing
 failingOf n =
-    if eqb n 4 then BadPrimary else
-    if eqb n 5 then BadId else
-    if eqb n 6 then BadManufacturer else
-    if eqb n 7 then BadMedium else
-    if eqb n 8 then BadBaud else
+    if eqb n refusedPrimary then BadPrimary else
+    if eqb n refusedId then BadId else
+    if eqb n refusedManufacturer then BadManufacturer else
+    if eqb n refusedMedium then BadMedium else
+    if eqb n refusedOwnBaud then BadBaud else
     BadFault
 
 unfoldable pub checkedOf : Listed → Checked
-checkedOf r = if eqb (check r) 0 then Passes (valuesOf r) else Fails (failingOf (check r))
+checkedOf r = if eqb (check r) notRefused then Passes (valuesOf r) else Fails (failingOf (check r))
 
 -- the answer has the number of 01, and if that is 0 the record's values
 pub record CheckGives (r : Listed) (a : Checked) : Type 0 where

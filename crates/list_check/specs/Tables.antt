@@ -1,8 +1,10 @@
--- "The keys and codes are those of MEDIA, FAULTS and BAUD_RATES": key texts as bytes, codes, and the kinds that the Rust's `model_of` and `fault_of` give. The rates are in `meter`.
+-- "The keys and codes are those of MEDIA, FAULTS and BAUD_RATES": key texts as bytes, codes, and the kinds that the
+-- Rust's `model_of` and `fault_of` give. The rates are in `meter`.
 use mathlib.Core.Bool.{Bool, false, _||_}
 use mathlib.Core.List.{List, [], _∷_}
 use Prim.Native.Nat.{ℕ}
 use lib.Dec.{eqb}
+use Rattle.laws.specs.Ascii.{ascii}
 use Rattle.laws.specs.Words.{if_then_else_, sameList}
 use Rattle.meter.specs.declared.Fault.{Fault}
 use Rattle.meter.specs.declared.Fault.the-variants.{None, Checksum, Truncated, Busy, WrongAddress, Flaky, TooMany}
@@ -20,69 +22,54 @@ pub record FaultKey : Type 0 where
   pub key : List ℕ
   pub fault : Fault
 
--- heat
 abbrev pub medium-heat : Medium
-medium-heat = record { key = 0x68 ∷ 0x65 ∷ 0x61 ∷ 0x74 ∷ []; code = 0x04; model = Heat }
+medium-heat = record { key = ascii "heat"; code = 0x04; model = Heat }
 
--- cooling
 abbrev pub medium-cooling : Medium
-medium-cooling = record { key = 0x63 ∷ 0x6F ∷ 0x6F ∷ 0x6C ∷ 0x69 ∷ 0x6E ∷ 0x67 ∷ []; code = 0x0A; model = Heat }
+medium-cooling = record { key = ascii "cooling"; code = 0x0A; model = Heat }
 
--- water
 abbrev pub medium-water : Medium
-medium-water = record { key = 0x77 ∷ 0x61 ∷ 0x74 ∷ 0x65 ∷ 0x72 ∷ []; code = 0x07; model = Water }
+medium-water = record { key = ascii "water"; code = 0x07; model = Water }
 
--- cold_water
 abbrev pub medium-cold-water : Medium
-medium-cold-water = record { key = 0x63 ∷ 0x6F ∷ 0x6C ∷ 0x64 ∷ 0x5F ∷ 0x77 ∷ 0x61 ∷ 0x74 ∷ 0x65 ∷ 0x72 ∷ []; code = 0x16; model = Water }
+medium-cold-water = record { key = ascii "cold_water"; code = 0x16; model = Water }
 
--- warm_water
 abbrev pub medium-warm-water : Medium
-medium-warm-water = record { key = 0x77 ∷ 0x61 ∷ 0x72 ∷ 0x6D ∷ 0x5F ∷ 0x77 ∷ 0x61 ∷ 0x74 ∷ 0x65 ∷ 0x72 ∷ []; code = 0x06; model = Water }
+medium-warm-water = record { key = ascii "warm_water"; code = 0x06; model = Water }
 
--- gas
 abbrev pub medium-gas : Medium
-medium-gas = record { key = 0x67 ∷ 0x61 ∷ 0x73 ∷ []; code = 0x03; model = Water }
+medium-gas = record { key = ascii "gas"; code = 0x03; model = Water }
 
--- electricity
 abbrev pub medium-electricity : Medium
-medium-electricity = record { key = 0x65 ∷ 0x6C ∷ 0x65 ∷ 0x63 ∷ 0x74 ∷ 0x72 ∷ 0x69 ∷ 0x63 ∷ 0x69 ∷ 0x74 ∷ 0x79 ∷ []; code = 0x02; model = Electricity }
+medium-electricity = record { key = ascii "electricity"; code = 0x02; model = Electricity }
 
--- heat_old
 abbrev pub medium-heat-old : Medium
-medium-heat-old = record { key = 0x68 ∷ 0x65 ∷ 0x61 ∷ 0x74 ∷ 0x5F ∷ 0x6F ∷ 0x6C ∷ 0x64 ∷ []; code = 0x04; model = Fixed }
+medium-heat-old = record { key = ascii "heat_old"; code = 0x04; model = Fixed }
 
 -- in MEDIA's order
 unfoldable pub media : List Medium
 media = medium-heat ∷ medium-cooling ∷ medium-water ∷ medium-cold-water ∷ medium-warm-water ∷ medium-gas ∷ medium-electricity ∷ medium-heat-old ∷ []
 
--- none
 abbrev pub fault-none : FaultKey
-fault-none = record { key = 0x6E ∷ 0x6F ∷ 0x6E ∷ 0x65 ∷ []; fault = None }
+fault-none = record { key = ascii "none"; fault = None }
 
--- checksum
 abbrev pub fault-checksum : FaultKey
-fault-checksum = record { key = 0x63 ∷ 0x68 ∷ 0x65 ∷ 0x63 ∷ 0x6B ∷ 0x73 ∷ 0x75 ∷ 0x6D ∷ []; fault = Checksum }
+fault-checksum = record { key = ascii "checksum"; fault = Checksum }
 
--- truncated
 abbrev pub fault-truncated : FaultKey
-fault-truncated = record { key = 0x74 ∷ 0x72 ∷ 0x75 ∷ 0x6E ∷ 0x63 ∷ 0x61 ∷ 0x74 ∷ 0x65 ∷ 0x64 ∷ []; fault = Truncated }
+fault-truncated = record { key = ascii "truncated"; fault = Truncated }
 
--- busy
 abbrev pub fault-busy : FaultKey
-fault-busy = record { key = 0x62 ∷ 0x75 ∷ 0x73 ∷ 0x79 ∷ []; fault = Busy }
+fault-busy = record { key = ascii "busy"; fault = Busy }
 
--- wrong_address
 abbrev pub fault-wrong-address : FaultKey
-fault-wrong-address = record { key = 0x77 ∷ 0x72 ∷ 0x6F ∷ 0x6E ∷ 0x67 ∷ 0x5F ∷ 0x61 ∷ 0x64 ∷ 0x64 ∷ 0x72 ∷ 0x65 ∷ 0x73 ∷ 0x73 ∷ []; fault = WrongAddress }
+fault-wrong-address = record { key = ascii "wrong_address"; fault = WrongAddress }
 
--- flaky
 abbrev pub fault-flaky : FaultKey
-fault-flaky = record { key = 0x66 ∷ 0x6C ∷ 0x61 ∷ 0x6B ∷ 0x79 ∷ []; fault = Flaky }
+fault-flaky = record { key = ascii "flaky"; fault = Flaky }
 
--- too_many
 abbrev pub fault-too-many : FaultKey
-fault-too-many = record { key = 0x74 ∷ 0x6F ∷ 0x6F ∷ 0x5F ∷ 0x6D ∷ 0x61 ∷ 0x6E ∷ 0x79 ∷ []; fault = TooMany }
+fault-too-many = record { key = ascii "too_many"; fault = TooMany }
 
 -- in FAULTS' order
 unfoldable pub faults : List FaultKey

@@ -3,6 +3,7 @@ ghost use mathlib.Core.Path.{_≡_};
 ghost use Rattle.list_check.specs.Checked.{failNumber};
 ghost use Rattle.list_check.specs.Refusals.{isAccepted, refusalNumber, refusalIndex};
 use crate::Failing;
+use laws::refused;
 
 // Accepted, or what an opening is refused with: 1, 2, 3, 4 to 9 with the record's index, 10.
 pub enum Refusal {
@@ -29,30 +30,30 @@ pub fn is_accepted(r: Refusal) -> bool
 }
 
 // Its number in the table of refusals, 4 to 9.
-fn fail_number(f: Failing) -> u8
+fn fail_number(f: Failing) -> u32
     ensures { λ n. ⌜ n ≡ failNumber f ⌝ }
 {
     match f {
-        Failing::BadPrimary => 4,
-        Failing::BadId => 5,
-        Failing::BadManufacturer => 6,
-        Failing::BadMedium => 7,
-        Failing::BadBaud => 8,
-        Failing::BadFault => 9,
+        Failing::BadPrimary => refused::PRIMARY,
+        Failing::BadId => refused::ID,
+        Failing::BadManufacturer => refused::MANUFACTURER,
+        Failing::BadMedium => refused::MEDIUM,
+        Failing::BadBaud => refused::OWN_BAUD,
+        Failing::BadFault => refused::FAULT,
     }
 }
 
 // Its number in the table of refusals; 0 for an accepted opening.
-pub fn refusal_number(r: Refusal) -> u8
+pub fn refusal_number(r: Refusal) -> u32
     ensures { λ n. ⌜ n ≡ refusalNumber r ⌝ }
 {
     match r {
-        Refusal::Accepted => 0,
-        Refusal::Version => 1,
-        Refusal::Length => 2,
-        Refusal::Capacity => 3,
+        Refusal::Accepted => refused::NOT_REFUSED,
+        Refusal::Version => refused::VERSION,
+        Refusal::Length => refused::LENGTH,
+        Refusal::Capacity => refused::CAPACITY,
         Refusal::AtRecord(f, i) => fail_number(f),
-        Refusal::Baud => 10,
+        Refusal::Baud => refused::BAUD,
     }
 }
 

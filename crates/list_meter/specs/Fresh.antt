@@ -26,7 +26,8 @@ seedFrom practice id = if practice then 0 else id % 997 * 53
 unfoldable pub seedOf : Bool → List ℕ → ℕ
 seedOf practice digits = seedFrom practice (decimal digits)
 
--- "A fresh meter: access 0, not selected, part 0, no last FCB (the alternation bit, 20), readouts 0, and a flaky one misses its first telegram."
+-- "A fresh meter: access 0, not selected, part 0, no last FCB (the alternation bit, 20), readouts 0, and a flaky one
+-- misses its first telegram."
 unfoldable pub fresh : ℕ → Bool → Listed → PlainMeter
 fresh bus practice r =
     record {

@@ -1,4 +1,5 @@
--- The program's fresh meter, by the values of a record that passes. That it is 01's fresh meter is proved (proofs/FreshLaws, `fresh-plain`).
+-- The program's fresh meter, by the values of a record that passes. That it is 01's fresh meter is proved
+-- (proofs/FreshLaws, `fresh-plain`).
 use mathlib.Core.Bool.{Bool, false}
 use Prim.Native.Nat.{ℕ}
 use Rattle.meter.specs.declared.LastFcb.the-variants.{Never}
@@ -17,19 +18,15 @@ baudFrom bus practice (Own own) = otherThanBus bus practice own
 unfoldable pub freshOf : ℕ → Bool → Values → Meter
 freshOf bus practice v =
     record {
-      primary = v .primary;
-      id = v .id;
-      manufacturer = v .manufacturer;
-      version = v .version;
-      medium = v .medium;
-      model = v .model;
-      fault = v .fault;
-      access = 0;
-      baud = baudFrom bus practice (v .baud);
-      selected = false;
-      part = 0;
-      last = Never;
-      readouts = 0;
-      seed = seedFrom practice (v .number);
-      hearing = false;
+      built =
+          record {
+            id = v .id;
+            manufacturer = v .manufacturer;
+            version = v .version;
+            medium = v .medium;
+            model = v .model;
+            fault = v .fault;
+            seed = seedFrom practice (v .number);
+          };
+      state = record { primary = v .primary; access = 0; selected = false; part = 0; last = Never; readouts = 0; hearing = false; baud = baudFrom bus practice (v .baud) };
     }

@@ -4,8 +4,10 @@ ghost use Rattle.list_meter.specs.Fresh.{otherThanBus, seedFrom};
 ghost use Rattle.list_meter.specs.ProgramFresh.{baudFrom, freshOf};
 use list_check::OwnBaud;
 use list_check::Values;
+use meter::Built;
 use meter::LastFcb;
 use meter::Meter;
+use meter::State;
 
 // An own baud equal to the bus baud becomes 2400 with the practice flag.
 fn other_than_bus(own: u32, bus: u32, practice: bool) -> u32
@@ -46,21 +48,27 @@ pub fn fresh(v: Values, bus: u32, practice: bool) -> Meter
     let model = v.model;
     let fault = v.fault;
     let own = v.baud;
-    Meter {
-        primary: v.primary,
+    let built = Built {
         id: v.id,
         manufacturer: v.manufacturer,
         version: v.version,
         medium: v.medium,
-        model: model,
-        fault: fault,
+        model,
+        fault,
+        seed: seed_of(v.number, practice),
+    };
+    let state = State {
+        primary: v.primary,
         access: 0,
-        baud: baud_of(own, bus, practice),
         selected: false,
         part: 0,
         last: LastFcb::Never,
         readouts: 0,
-        seed: seed_of(v.number, practice),
         hearing: false,
+        baud: baud_of(own, bus, practice),
+    };
+    Meter {
+        built: built,
+        state: state,
     }
 }

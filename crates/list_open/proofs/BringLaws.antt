@@ -11,7 +11,8 @@ use Rattle.laws.specs.Words.{if_then_else_}
 use Rattle.meter.specs.declared.Meter.{Meter}
 use Rattle.list.specs.ProgramReading.{listedOf}
 use Rattle.list_check.specs.Checked.{checkedOf}
-use Rattle.list_open.specs.ProgramGather.{spare, noMeters, admitted, gatheredIn, nothingMore, Spares, Brings}
+use Rattle.meter.specs.View.{blankMeter}
+use Rattle.list_open.specs.ProgramGather.{noMeters, admitted, gatheredIn, nothingMore, Spares, Brings}
 use Rattle.list_check.specs.Refusals.{isAccepted}
 use Rattle.list_meter.specs.ProgramFresh.{freshOf}
 use Rattle.list.specs.declared.Listed.{Listed as Placed}
@@ -29,19 +30,19 @@ use Rattle.list_open.proofs.GatherLaws.{admit-bad, admit-end, admit-kep
 
 -- ---- the places
 
-all-spare : (n k : ℕ) → getD (replicate n spare) k spare ≡ spare
+all-spare : (n k : ℕ) → getD (replicate n blankMeter) k blankMeter ≡ blankMeter
 all-spare zero k = refl
 all-spare (suc n) zero = refl
 all-spare (suc n) (suc k) = all-spare n k
 
-pub spares-first : {ms : List Meter} → ms ≡ replicate mostMeters spare → Spares ms 0
+pub spares-first : {ms : List Meter} → ms ≡ replicate mostMeters blankMeter → Spares ms 0
 spares-first e = subst (λ (ms : List Meter). Spares ms 0) (sym e) (λ k h. all-spare mostMeters k)
 
-set-spare : (ms : List Meter) (n : ℕ) → Spares ms n → set ms n spare ≡ ms
-set-spare ms n h = ap (set ms n) (sym (h n (omega arith))) ∙ set-getD ms n spare
+set-spare : (ms : List Meter) (n : ℕ) → Spares ms n → set ms n blankMeter ≡ ms
+set-spare ms n h = ap (set ms n) (sym (h n (omega arith))) ∙ set-getD ms n blankMeter
 
 spares-set : (ms : List Meter) (n : ℕ) (m : Meter) → Spares ms n → Spares (set ms n m) (n + 1)
-spares-set ms n m h k l = getD-set-other ms n k m spare (λ e. absurd (omega (arith, e, l))) ∙ h k (omega (arith, l))
+spares-set ms n m h k l = getD-set-other ms n k m blankMeter (λ e. absurd (omega (arith, e, l))) ∙ h k (omega (arith, l))
 
 -- ---- the meters so far
 
@@ -62,13 +63,13 @@ module _ (ms : List Meter) (p : Progress) where
   still-refused h = ap (λ (a : Meters). isAccepted (a .refusal)) (sym (in-refused h)) ∙ h
 
 -- before the first record
-pub in-first : {ms : List Meter} → ms ≡ replicate mostMeters spare → gatheredIn ms (record { refusal = Accepted; count = 0 }) ≡ noMeters Accepted
+pub in-first : {ms : List Meter} → ms ≡ replicate mostMeters blankMeter → gatheredIn ms (record { refusal = Accepted; count = 0 }) ≡ noMeters Accepted
 unfolding gatheredIn noMeters
 in-first e = ap (λ (ms : List Meter). stored ms (record { refusal = Accepted; count = 0 })) e
 
 -- ---- one step of the reader
 
-pub nothing-is : (p : Progress) {m : Meter} → m ≡ spare → _≡_ {A = Brought} (record { meter = m; progress = p }) (nothingMore p)
+pub nothing-is : (p : Progress) {m : Meter} → m ≡ blankMeter → _≡_ {A = Brought} (record { meter = m; progress = p }) (nothingMore p)
 unfolding nothingMore
 nothing-is p e = ap (λ (m : Meter). record { meter = m; progress = p }) e
 

@@ -11,7 +11,8 @@ use Rattle.laws.specs.Words.{if_then_else_}
 use Rattle.meter.specs.declared.Meter.{Meter}
 use Rattle.list.specs.ProgramReading.{listedOf, stepAt, atOf}
 use Rattle.list_check.specs.Checked.{checkedOf}
-use Rattle.list_open.specs.ProgramGather.{spare, noMeters, withMeter, withRecord, admitted, standsAt, gathered, gatheredOf}
+use Rattle.meter.specs.View.{blankMeter}
+use Rattle.list_open.specs.ProgramGather.{noMeters, withMeter, withRecord, admitted, standsAt, gathered, gatheredOf}
 use Rattle.list_check.specs.Refusals.{isAccepted}
 use Rattle.list_meter.specs.ProgramFresh.{freshOf}
 use Rattle.list.specs.declared.Listed.{Listed as Placed}
@@ -25,7 +26,7 @@ use Rattle.list_check.specs.declared.refusal.Refusal.{Refusal}
 use Rattle.list_check.specs.declared.refusal.Refusal.the-variants.{Accepted, AtRecord}
 use Rattle.list_open.specs.declared.Meters.{Meters}
 
-pub none-is : (r : Refusal) {ms : List Meter} → ms ≡ replicate mostMeters spare → _≡_ {A = Meters} (record { refusal = r; meters = ms; count = 0 }) (noMeters r)
+pub none-is : (r : Refusal) {ms : List Meter} → ms ≡ replicate mostMeters blankMeter → _≡_ {A = Meters} (record { refusal = r; meters = ms; count = 0 }) (noMeters r)
 unfolding noMeters
 none-is r e = ap (λ (ms : List Meter). record { refusal = r; meters = ms; count = 0 }) e
 

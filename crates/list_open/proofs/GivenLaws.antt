@@ -11,14 +11,14 @@ use borrow.Author.Tests.{lt-ltb, le-ltb}
 use Rattle.laws.specs.Words.{if_then_else_, at}
 use Rattle.laws.specs.Sweep.{fold}
 use Rattle.meter.specs.Meter.{rates}
-use Rattle.meter.specs.View.{plainMeter}
+use Rattle.meter.specs.View.{blankMeter, plainMeter}
 use Rattle.list_check.specs.Tables.{isRate}
 use Rattle.list.specs.Layout.{Listed, Layout, fits, noFit, readRecords}
 use Rattle.list_check.specs.Check.{allPass}
 use Rattle.list_open.specs.Opening.{mostMeters, capacity, Opened, opens, refuses, refusesRecord, metersIn, OpeningGives, openRecords, openList}
 use Rattle.list_meter.specs.Fresh.{fresh}
-use Rattle.list.specs.ProgramReading.{shapeOfCount, shapeOf, shapeNumber}
-use Rattle.list_open.specs.ProgramGather.{spare, noMeters, gatheredOf}
+use Rattle.list.specs.ProgramReading.{shapeOfCount, shapeOf}
+use Rattle.list_open.specs.ProgramGather.{noMeters, gatheredOf}
 use Rattle.list_check.specs.Refusals.{isAccepted}
 use Rattle.list_open.specs.Given.{MetersGiven}
 use Rattle.list_check.specs.Refusals.{refusalNumber, refusalIndex}
@@ -35,8 +35,8 @@ use Rattle.list_open.proofs.TakeInLaws.{Under, all-taken, one-stops}
 
 -- what an opening of the list comes to, by its shape
 abbrev ByShape : List ℕ → ℕ → Bool → Shape → Type 0
-ByShape bs bus practice Unversioned = openList bs bus practice ≡ refuses (shapeNumber Unversioned)
-ByShape bs bus practice Unfit = openList bs bus practice ≡ refuses (shapeNumber Unfit)
+ByShape bs bus practice Unversioned = openList bs bus practice ≡ refuses 1
+ByShape bs bus practice Unfit = openList bs bus practice ≡ refuses 2
 ByShape bs bus practice (Fits n) = (rs : List Listed) × (readFrom bs 3 ≡ fits rs) × (n ≡ length rs) × (openList bs bus practice ≡ openRecords bus practice (fits rs))
 
 pub by-shape : (bs : List ℕ) (bus : ℕ) (practice : Bool) {s : Shape} → s ≡ shapeOf bs → ByShape bs bus practice s
@@ -104,7 +104,7 @@ module _ (bs : List ℕ) (bus : ℕ) (practice : Bool) (rs : List Listed) (opene
 
   under : Under (noMeters Accepted) (length rs)
   unfolding noMeters
-  under = record { accepted = refl; places = length-replicate mostMeters spare; room = rw zero-add few }
+  under = record { accepted = refl; places = length-replicate mostMeters blankMeter; room = rw zero-add few }
 
   over-not : ltb capacity (length rs) ≡ false
   unfolding capacity

@@ -1,4 +1,5 @@
--- One element of a local array is stored in place, in a walk by hand: `types.Run`'s `store` for the place of element k, where the rest of the array is left as it is. And what each element's type says of its machine value after that.
+-- One element of a local array is stored in place, in a walk by hand: `types.Run`'s `store` for the place of element
+-- k, where the rest of the array is left as it is. And what each element's type says of its machine value after that.
 use mathlib.Core.Path.{_≡_, refl, sym, ap, subst, _∙_}
 use Prim.Native.Nat.{ℕ, zero, suc, _+_, _*_, _<_}
 use mathlib.Core.List.{List, [], _∷_}

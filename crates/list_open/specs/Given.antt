@@ -9,7 +9,8 @@ use Rattle.list_open.specs.Opening.{metersIn, OpeningGives, openList}
 use Rattle.list_check.specs.Refusals.{refusalNumber, refusalIndex}
 use Rattle.list_open.specs.declared.Meters.{Meters}
 
--- the contract of an opening: number and index are ones that the definition allows, and the meters are the definition's; a refused one has none
+-- the contract of an opening: number and index are ones that the definition allows, and the meters are the
+-- definition's; a refused one has none
 pub record MetersGiven (list : List ℕ) (bus : ℕ) (practice : Bool) (a : Meters) : Type 0 where
   pub gives : OpeningGives (openList list bus practice) (refusalNumber (a .refusal)) (refusalIndex (a .refusal))
   pub count : a .count ≡ length (metersIn (openList list bus practice))

@@ -1,16 +1,15 @@
--- What the program makes of the list's records, one after another: its meters, or the first record that fails; first as a fold over the records, then with each meter
+-- What the program makes of the list's records, one after another: its meters, or the first record that fails; first
+-- as a fold over the records, then with each meter
 -- stored in its place, as the loop does it. That it comes to 01's opening is proved (proofs/GivenLaws).
 use mathlib.Core.Path.{_≡_}
-use mathlib.Core.Bool.{Bool, false}
+use mathlib.Core.Bool.{Bool}
 use mathlib.Core.List.{List}
 use Prim.Native.Nat.{ℕ, zero, suc, _+_, _≤_}
 use lib.Dec.{ltb}
 use lib.ListN.{getD, set, replicate}
 use Rattle.list_open.specs.Opening.{mostMeters}
 use Rattle.laws.specs.Words.{if_then_else_}
-use Rattle.meter.specs.declared.Fault.the-variants.{None}
-use Rattle.meter.specs.declared.Model.the-variants.{Water}
-use Rattle.meter.specs.declared.LastFcb.the-variants.{Never}
+use Rattle.meter.specs.View.{blankMeter}
 use Rattle.meter.specs.declared.Meter.{Meter}
 use Rattle.list.specs.ProgramReading.{listedOf, stepAt, atOf}
 use Rattle.list_check.specs.Checked.{checkedOf}
@@ -26,30 +25,9 @@ use Rattle.list_open.specs.declared.Meters.{Meters}
 use Rattle.list_open.specs.declared.opening.Progress.{Progress}
 use Rattle.list_open.specs.declared.opening.Brought.{Brought}
 
--- what stands in the places that hold no meter
-unfoldable pub spare : Meter
-spare =
-    record {
-      primary = 0;
-      id = 0;
-      manufacturer = 0;
-      version = 0;
-      medium = 0;
-      model = Water;
-      fault = None;
-      access = 0;
-      baud = 0;
-      selected = false;
-      part = 0;
-      last = Never;
-      readouts = 0;
-      seed = 0;
-      hearing = false;
-    }
-
 -- no meters
 unfoldable pub noMeters : Refusal → Meters
-noMeters r = record { refusal = r; meters = replicate mostMeters spare; count = 0 }
+noMeters r = record { refusal = r; meters = replicate mostMeters blankMeter; count = 0 }
 
 -- one meter more, while there is room
 unfoldable pub withMeter : Meters → Meter → Meters
@@ -88,13 +66,14 @@ gatheredIn ms p = if isAccepted (p .refusal) then record { refusal = p .refusal;
 
 -- no meter more
 unfoldable pub nothingMore : Progress → Brought
-nothingMore p = record { meter = spare; progress = p }
+nothingMore p = record { meter = blankMeter; progress = p }
 
 -- the places from n on hold no meter
 abbrev pub Spares : List Meter → ℕ → Type 0
-Spares ms n = (k : ℕ) → n ≤ k → getD ms k spare ≡ spare
+Spares ms n = (k : ℕ) → n ≤ k → getD ms k blankMeter ≡ blankMeter
 
--- what a step of the reader brings: stored at the place of the count, its meter makes of the meters so far those of one step more; the places past them still hold none
+-- what a step of the reader brings: stored at the place of the count, its meter makes of the meters so far those of
+-- one step more; the places past them still hold none
 pub record Brings (s : List ℕ) (bus : ℕ) (practice : Bool) (p : Progress) (t : Step) (b : Brought) : Type 0 where
   pub admits : (ms : List Meter) → Spares ms (p .count) → gatheredIn (set ms (p .count) (b .meter)) (b .progress) ≡ admitted s bus practice (gatheredIn ms p) t
   pub spares : (ms : List Meter) → Spares ms (p .count) → Spares (set ms (p .count) (b .meter)) (b .progress .count)

@@ -1,8 +1,9 @@
 // Meters gathered one after another, from none on.
 ghost use mathlib.Core.Path.{_≡_};
 ghost use lib.ListN.{replicate};
+ghost use Rattle.meter.specs.View.{blankMeter};
 ghost use Rattle.list_open.specs.Opening.{mostMeters};
-ghost use Rattle.list_open.specs.ProgramGather.{spare, noMeters, gatheredIn, nothingMore, Brings};
+ghost use Rattle.list_open.specs.ProgramGather.{noMeters, gatheredIn, nothingMore, Brings};
 use super::METERS;
 use super::Meters;
 use list::Step;
@@ -11,10 +12,8 @@ use list_check::check::check;
 use list_check::refusal::Refusal;
 use list_check::refusal::is_accepted;
 use list_meter::fresh;
-use meter::Fault;
-use meter::LastFcb;
 use meter::Meter;
-use meter::Model;
+use meter::blank_meter;
 
 // How far an opening has come: the meters stored, and what the first failing record refuses it with.
 pub(crate) struct Progress {
@@ -28,34 +27,11 @@ pub(crate) struct Brought {
     pub progress: Progress,
 }
 
-// What stands in the places that hold no meter.
-fn spare_meter() -> Meter
-    ensures { λ r. ⌜ r ≡ spare ⌝ }
-{
-    Meter {
-        primary: 0,
-        id: 0,
-        manufacturer: 0,
-        version: 0,
-        medium: 0,
-        model: Model::Water,
-        fault: Fault::None,
-        access: 0,
-        baud: 0,
-        selected: false,
-        part: 0,
-        last: LastFcb::Never,
-        readouts: 0,
-        seed: 0,
-        hearing: false,
-    }
-}
-
 // A place for each meter, and no meter yet.
 pub(crate) fn spare_meters() -> [Meter; METERS]
-    ensures { λ r. ⌜ r ≡ replicate mostMeters spare ⌝ }
+    ensures { λ r. ⌜ r ≡ replicate mostMeters blankMeter ⌝ }
 {
-    let m = spare_meter();
+    let m = blank_meter();
     [m; METERS]
 }
 
@@ -65,7 +41,7 @@ pub(crate) fn no_meters(refusal: Refusal) -> Meters
 {
     let ms = spare_meters();
     Meters {
-        refusal: refusal,
+        refusal,
         meters: ms,
         count: 0,
     }
@@ -82,11 +58,8 @@ pub fn begin() -> Meters
 fn nothing_more(progress: Progress) -> Brought
     ensures { λ r. ⌜ r ≡ nothingMore progress ⌝ }
 {
-    let m = spare_meter();
-    Brought {
-        meter: m,
-        progress: progress,
-    }
+    let m = blank_meter();
+    Brought { meter: m, progress }
 }
 
 // One step of the reader more. The first record that fails refuses the opening.
@@ -109,10 +82,7 @@ pub(crate) fn bring(
                         if k < METERS {
                             let m = fresh(v, bus, practice);
                             let count = k + 1;
-                            let next = Progress {
-                                refusal: refusal,
-                                count: count,
-                            };
+                            let next = Progress { refusal, count };
                             return Brought {
                                 meter: m,
                                 progress: next,
@@ -143,8 +113,8 @@ pub(crate) fn finished(meters: [Meter; METERS], progress: Progress) -> Meters
     let refusal = progress.refusal;
     if is_accepted(refusal) {
         return Meters {
-            refusal: refusal,
-            meters: meters,
+            refusal,
+            meters,
             count: progress.count,
         };
     }

@@ -34,14 +34,14 @@ fn read_list(list: &mut [u8]) -> Input
         let part = read_part(list, count);
         if part.count == 0 {
             return Input {
-                count: count,
+                count,
                 failed: part.failed,
             };
         }
         count += part.count;
     }
     Input {
-        count: count,
+        count,
         failed: false,
     }
 }

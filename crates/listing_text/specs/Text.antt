@@ -5,6 +5,7 @@ use mathlib.Core.List.{List, [], _∷_, _++_, map}
 use Prim.Native.Nat.{ℕ, zero, suc, _+_, _*_, _/_, _%_}
 use lib.Dec.{eqb, ltb}
 use lib.ListN.{length, take, drop}
+use Rattle.laws.specs.Ascii.{ascii}
 use Rattle.laws.specs.Words.{if_then_else_, each}
 use Rattle.list_open.specs.Opening.{capacity}
 use Rattle.search.specs.declared.EntryRecord.{EntryRecord}
@@ -33,26 +34,22 @@ eightDigits ds = map digit ds
 
 -- ---- the words
 
--- "one ", "mute ", "many "
 abbrev pub word : Kind → List ℕ
-word One = 0x6F ∷ 0x6E ∷ 0x65 ∷ 0x20 ∷ []
-word Mute = 0x6D ∷ 0x75 ∷ 0x74 ∷ 0x65 ∷ 0x20 ∷ []
-word Many = 0x6D ∷ 0x61 ∷ 0x6E ∷ 0x79 ∷ 0x20 ∷ []
+word One = ascii "one "
+word Mute = ascii "mute "
+word Many = ascii "many "
 
 abbrev pub newline : List ℕ
-newline = 0x0A ∷ []
+newline = ascii "\n"
 
--- " entries, "
 abbrev pub entriesWord : List ℕ
-entriesWord = 0x20 ∷ 0x65 ∷ 0x6E ∷ 0x74 ∷ 0x72 ∷ 0x69 ∷ 0x65 ∷ 0x73 ∷ 0x2C ∷ 0x20 ∷ []
+entriesWord = ascii " entries, "
 
--- " probes" and the line's end
 abbrev pub probesWord : List ℕ
-probesWord = 0x20 ∷ 0x70 ∷ 0x72 ∷ 0x6F ∷ 0x62 ∷ 0x65 ∷ 0x73 ∷ 0x0A ∷ []
+probesWord = ascii " probes\n"
 
--- "refused "
 abbrev pub refusedWord : List ℕ
-refusedWord = 0x72 ∷ 0x65 ∷ 0x66 ∷ 0x75 ∷ 0x73 ∷ 0x65 ∷ 0x64 ∷ 0x20 ∷ []
+refusedWord = ascii "refused "
 
 -- ---- the lines
 

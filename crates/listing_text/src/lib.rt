@@ -53,7 +53,7 @@ fn list_into(input: &[u8], lent: [u8; TEXT]) -> Printed
     let answer = open_list(&mut image, input);
     let n = list_check::refusal::refusal_number(answer);
     if n != 0 {
-        return report::refusal(lent, n as u32);
+        return report::refusal(lent, n);
     }
     let found = search::search_listed(&mut image, clock(), 10000, METERS);
     let entries = found.entries;

@@ -12,16 +12,11 @@ use search::Kind;
 use segment::METERS;
 
 // Some bytes from a place on; gives the place behind them.
-fn append(out: &mut [u8; TEXT], at: usize, bytes: &[u8]) -> usize
+fn append(out: &mut [u8], at: usize, bytes: &[u8]) -> usize
     requires { ⌜ (at + length (now bytes) ≤ room) × (length (now out) ≡ room) ⌝ }
     ensures { λ r. ⌜ Wrote (now (out .entry)) at (now (bytes .entry)) r (now (out .exit)) ⌝ }
 {
-    let mut j: usize = 0;
-    while j < bytes.len() {
-        out[at + j] = bytes[j];
-        j += 1;
-    }
-    at + j
+    at + bytes::copy(bytes, &mut out[at..])
 }
 
 // A number's digits and where they begin.
@@ -43,10 +38,7 @@ fn spell(n: u32) -> Spelled
     }
     i -= 1;
     digits[i] = 0x30 + rest as u8;
-    Spelled {
-        digits: digits,
-        from: i,
-    }
+    Spelled { digits, from: i }
 }
 
 fn append_number(out: &mut [u8; TEXT], at: usize, n: u32) -> usize
@@ -164,10 +156,7 @@ pub(crate) fn report(
     let n = least(count, METERS);
     let a = append_first(&mut bytes, n as u32, probes);
     let len = append_lines(&mut bytes, a, entries, n);
-    Printed {
-        bytes: bytes,
-        len: len,
-    }
+    Printed { bytes, len }
 }
 
 // The line for a refused list.
@@ -178,8 +167,5 @@ pub(crate) fn refusal(lent: [u8; TEXT], n: u32) -> Printed
     let a = append(&mut bytes, 0, b"refused ");
     let b = append_number(&mut bytes, a, n);
     let len = append(&mut bytes, b, b"\n");
-    Printed {
-        bytes: bytes,
-        len: len,
-    }
+    Printed { bytes, len }
 }

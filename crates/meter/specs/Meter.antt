@@ -15,7 +15,8 @@ rates = 300 ∷ 600 ∷ 1200 ∷ 2400 ∷ 4800 ∷ 9600 ∷ 19200 ∷ 38400 ∷ 
 
 -- ---- a meter with some parts changed
 
--- what telegrams change stands in five groups: how it is reached, whether it is selected, where its readout stands, what is counted,
+-- what telegrams change stands in five groups: how it is reached, whether it is selected, where its readout stands,
+-- what is counted,
 -- and whether a flaky one hears next
 abbrev pub with : PlainMeter → (reached : ℕ × ℕ) → (selected : Bool) → (standing : ℕ × LastFcb) → (counters : ℕ × ℕ) → (hearsNext : Bool) → PlainMeter
 with m reached selected standing counters hearsNext =
@@ -59,9 +60,15 @@ withSelected s m = with m (reached m) s (standing m) (counters m) (m .hearsNext)
 abbrev pub withHearsNext : Bool → PlainMeter → PlainMeter
 withHearsNext h m = with m (reached m) (m .selected) (standing m) (counters m) h
 
+abbrev pub withStanding : ℕ × LastFcb → PlainMeter → PlainMeter
+withStanding s m = with m (reached m) (m .selected) s (counters m) (m .hearsNext)
+
+abbrev pub withCounters : ℕ × ℕ → PlainMeter → PlainMeter
+withCounters c m = with m (reached m) (m .selected) (standing m) c (m .hearsNext)
+
 -- "reset": part 0 and no last FCB, as a fresh meter has them
 abbrev pub reset : PlainMeter → PlainMeter
-reset m = with m (reached m) (m .selected) (0, Never) (counters m) (m .hearsNext)
+reset m = withStanding (0, Never) m
 
 -- ---- hearing
 

@@ -1,4 +1,5 @@
--- A meter of the plain segment (01, "The plain segment"): "each with its record's values (primary and baud as they now are, the id as its eight
+-- A meter of the plain segment (01, "The plain segment"): "each with its record's values (primary and baud as they
+-- now are, the id as its eight
 -- digits), seed, access, selection, part, last FCB, readouts and whether a flaky one hears next".
 use mathlib.Core.Bool.{Bool}
 use mathlib.Core.List.{List}

@@ -1,16 +1,17 @@
 // A meter with some of its parts changed, and whether it hears.
 ghost use mathlib.Core.Path.{_≡_};
-ghost use Rattle.meter.specs.Meter.{flaky, hears, offered, reset, withPrimary, withBaud, withSelected, withHearsNext};
+ghost use Rattle.meter.specs.Meter.{flaky, hears, offered, reset, withPrimary, withBaud, withSelected, withHearsNext, withStanding, withCounters};
 ghost use Rattle.meter.specs.View.{plainMeter};
 use super::Fault;
 use super::LastFcb;
 use super::Meter;
+use super::State;
 
 pub fn with_primary(m: Meter, primary: u8) -> Meter
     ensures { λ r. ⌜ plainMeter r ≡ withPrimary primary (plainMeter m) ⌝ }
 {
     let mut n = m;
-    n.primary = primary;
+    n.state.primary = primary;
     n
 }
 
@@ -18,7 +19,7 @@ pub fn with_baud(m: Meter, baud: u32) -> Meter
     ensures { λ r. ⌜ plainMeter r ≡ withBaud baud (plainMeter m) ⌝ }
 {
     let mut n = m;
-    n.baud = baud;
+    n.state.baud = baud;
     n
 }
 
@@ -26,7 +27,7 @@ pub fn with_selected(m: Meter, selected: bool) -> Meter
     ensures { λ r. ⌜ plainMeter r ≡ withSelected selected (plainMeter m) ⌝ }
 {
     let mut n = m;
-    n.selected = selected;
+    n.state.selected = selected;
     n
 }
 
@@ -34,7 +35,38 @@ fn with_hearing(m: Meter, hearing: bool) -> Meter
     ensures { λ r. ⌜ plainMeter r ≡ withHearsNext hearing (plainMeter m) ⌝ }
 {
     let mut n = m;
-    n.hearing = hearing;
+    n.state.hearing = hearing;
+    n
+}
+
+// Another part, and another last FCB.
+pub fn with_standing(m: Meter, part: u8, last: LastFcb) -> Meter
+    ensures { λ r. ⌜ plainMeter r ≡ withStanding (part, last) (plainMeter m) ⌝ }
+{
+    let built = m.built;
+    let state = State {
+        primary: m.state.primary,
+        access: m.state.access,
+        selected: m.state.selected,
+        part: part,
+        last: last,
+        readouts: m.state.readouts,
+        hearing: m.state.hearing,
+        baud: m.state.baud,
+    };
+    Meter {
+        built: built,
+        state: state,
+    }
+}
+
+// Another access number, and another count of readouts.
+pub fn with_counters(m: Meter, access: u8, readouts: u8) -> Meter
+    ensures { λ r. ⌜ plainMeter r ≡ withCounters (access, readouts) (plainMeter m) ⌝ }
+{
+    let mut n = m;
+    n.state.access = access;
+    n.state.readouts = readouts;
     n
 }
 
@@ -42,25 +74,7 @@ fn with_hearing(m: Meter, hearing: bool) -> Meter
 pub fn reset(m: Meter) -> Meter
     ensures { λ r. ⌜ plainMeter r ≡ reset (plainMeter m) ⌝ }
 {
-    let model = m.model;
-    let fault = m.fault;
-    Meter {
-        primary: m.primary,
-        id: m.id,
-        manufacturer: m.manufacturer,
-        version: m.version,
-        medium: m.medium,
-        model: model,
-        fault: fault,
-        access: m.access,
-        baud: m.baud,
-        selected: m.selected,
-        part: 0,
-        last: LastFcb::Never,
-        readouts: m.readouts,
-        seed: m.seed,
-        hearing: m.hearing,
-    }
+    with_standing(m, 0, LastFcb::Never)
 }
 
 fn is_flaky(f: Fault) -> bool
@@ -81,9 +95,10 @@ fn is_flaky(f: Fault) -> bool
 pub fn hears(m: Meter) -> bool
     ensures { λ r. ⌜ r ≡ hears (plainMeter m) ⌝ }
 {
-    let f = m.fault;
-    if is_flaky(f) {
-        return m.hearing;
+    let built = m.built;
+    let fault = built.fault;
+    if is_flaky(fault) {
+        return m.state.hearing;
     }
     true
 }
@@ -92,9 +107,10 @@ pub fn hears(m: Meter) -> bool
 pub fn offered(m: Meter) -> Meter
     ensures { λ r. ⌜ plainMeter r ≡ offered (plainMeter m) ⌝ }
 {
-    let f = m.fault;
-    if is_flaky(f) {
-        return with_hearing(m, !m.hearing);
+    let built = m.built;
+    let fault = built.fault;
+    if is_flaky(fault) {
+        return with_hearing(m, !m.state.hearing);
     }
     m
 }

@@ -2,6 +2,7 @@
 ghost use mathlib.Core.Path.{_≡_};
 ghost use lib.ListN.{getD};
 ghost use Rattle.meter.specs.Meter.{rates};
+ghost use Rattle.meter.specs.View.{blankMeter};
 
 pub mod changes; // changes.rt: a meter with some of its parts changed, and whether it hears
 
@@ -48,8 +49,8 @@ pub enum LastFcb {
     Set,
 }
 
-pub struct Meter {
-    pub primary: u8,
+// What an opening fixes.
+pub struct Built {
     // eight BCD digits, the most significant one in the highest nibble
     pub id: u32,
     pub manufacturer: u16,
@@ -57,15 +58,54 @@ pub struct Meter {
     pub medium: u8,
     pub model: Model,
     pub fault: Fault,
+    // shifts the values, so that not all meters show the same
+    pub seed: u32,
+}
+
+// What calls change. The bytes stand together, so that they are copied as one word.
+pub struct State {
+    pub primary: u8,
     pub access: u8,
-    pub baud: u32,
     pub selected: bool,
     pub part: u8,
     pub last: LastFcb,
     // of a meter with Fault::TooMany, up to 3
     pub readouts: u8,
-    // shifts the values, so that not all meters show the same
-    pub seed: u32,
     // of a meter with Fault::Flaky: whether it hears the next telegram
     pub hearing: bool,
+    pub baud: u32,
+}
+
+pub struct Meter {
+    pub built: Built,
+    pub state: State,
+}
+
+// What stands where there is no meter.
+pub fn blank_meter() -> Meter
+    ensures { λ r. ⌜ r ≡ blankMeter ⌝ }
+{
+    let built = Built {
+        id: 0,
+        manufacturer: 0,
+        version: 0,
+        medium: 0,
+        model: Model::Heat,
+        fault: Fault::None,
+        seed: 0,
+    };
+    let state = State {
+        primary: 0,
+        access: 0,
+        selected: false,
+        part: 0,
+        last: LastFcb::Never,
+        readouts: 0,
+        hearing: false,
+        baud: 0,
+    };
+    Meter {
+        built: built,
+        state: state,
+    }
 }

@@ -1,4 +1,5 @@
--- Which meters the program steps at all. The word is the program's: that the others stay as they are, without a reply, is proved
+-- Which meters the program steps at all. The word is the program's: that the others stay as they are, without a
+-- reply, is proved
 -- (proofs/ConcernLaws, `unconcerned`).
 use mathlib.Core.Bool.{Bool, false, _||_}
 use mathlib.Core.List.{List}
@@ -9,7 +10,8 @@ use Rattle.meter_identity.specs.Identity.{digitsOf}
 use Rattle.meter_select.specs.Matching.{idMatches}
 use Rattle.meter_step.specs.Hear.{isSelect, reaches}
 
--- whether a telegram may do anything to a meter with this primary address, selection and id: a select to a selected meter and to one
+-- whether a telegram may do anything to a meter with this primary address, selection and id: a select to a selected
+-- meter and to one
 -- whose id it matches, any other to its target. Where this is false it does nothing
 unfoldable pub concerns : Telegram → (primary : ℕ) → (selected : Bool) → (digits : List ℕ) → Bool
 concerns ack primary selected digits = false

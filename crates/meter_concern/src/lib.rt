@@ -14,7 +14,8 @@ ghost use Rattle.meter_concern.specs.ProgramSeeking.{knownDigit, knownDi
 use frame::Frame;
 use numbers::four;
 
-// The selected, if they are sought; and those whose first bytes in an image (primary address, id and three more, low byte first) have the
+// The selected, if they are sought; and those whose first bytes in an image (primary address, id and three more, low
+// byte first) have the
 // bits wanted where the mask has them. Under mask 0 everybody has 0, and nobody 1.
 pub struct Seeking {
     pub selected: bool,
@@ -141,7 +142,8 @@ pub fn sought_by(frame: Frame, data: &[u8]) -> Seeking
     }
 }
 
-// Whether a meter is sought, by its first eight bytes in an image and its selection; whatever test q stands for, it is that test.
+// Whether a meter is sought, by its first eight bytes in an image and its selection; whatever test q stands for, it
+// is that test.
 pub fn is_sought(
     q: Seeking,
     primary: u8,

@@ -3,6 +3,7 @@ use mathlib.Core.List.{List, [], _∷_, _++_}
 use Prim.Native.Nat.{ℕ, _+_, _*_, _/_, _%_}
 use lib.Dec.{eqb}
 use lib.Ieee.{Float}
+use Rattle.laws.specs.Ascii.{ascii}
 use Rattle.laws.specs.Words.{if_then_else_}
 use Rattle.numbers.specs.Values.{little, bcd}
 use Rattle.time_dates.specs.Dates.{typeG, typeF}
@@ -64,7 +65,7 @@ electricity t m =
     ++ 0x05 ∷ 0x2E ∷ 0x00 ∷ 0x00 ∷ 0x60 ∷ 0x40 ∷ []
     ++ 0x04 ∷ 0xFD ∷ 0x48 ∷ little 4 2301
     ++ 0x04 ∷ 0xFD ∷ 0x59 ∷ little 4 5123
-    ++ 0x0D ∷ 0xFD ∷ 0x0E ∷ 0x04 ∷ 0x32 ∷ 0x30 ∷ 0x2E ∷ 0x31 ∷ []
+    ++ 0x0D ∷ 0xFD ∷ 0x0E ∷ 0x04 ∷ ascii "20.1"
 
 -- Water
 unfoldable pub water : ℕ → Clock → PlainMeter → List ℕ

@@ -38,7 +38,7 @@ fn time_of(clock: Clock) -> [u8; 4]
 fn heat_first(d: Data, m: Meter, clock: Clock, tick: u32) -> Data
     ensures { λ r. ⌜ Put d (heatFirst tick clock (plainMeter m)) r ⌝ }
 {
-    let seed = m.seed as u64;
+    let seed = m.built.seed as u64;
     let t = tick as u64;
     let energy = 123_456 + seed + t / 10; // kWh
     let volume = 456_789 + seed * 3 + t / 4; // 0.01 m³
@@ -54,7 +54,7 @@ fn heat_first(d: Data, m: Meter, clock: Clock, tick: u32) -> Data
     let d9 = int4(d8, 0x44, 0x06, 120_000); // kWh at the due date
     let d10 = rec2(d9, 0x42, 0x6C, time_dates::type_g(2026, 9, 30));
     let d11 = rec2(d10, 0x01, 0xFD, [0x17, 0x00]);
-    let d12 = rec4(d11, 0x0C, 0x78, meter_identity::id_bytes(m.id));
+    let d12 = rec4(d11, 0x0C, 0x78, meter_identity::id_bytes(m.built.id));
     push(d12, 0x1F) // more data follow
 }
 
@@ -70,7 +70,7 @@ fn heat_second(d: Data) -> Data
 fn electricity(d: Data, m: Meter, tick: u32) -> Data
     ensures { λ r. ⌜ Put d (electricity tick (plainMeter m)) r ⌝ }
 {
-    let seed = m.seed as u64;
+    let seed = m.built.seed as u64;
     let t = tick as u64;
     let energy = 12_345_678 + seed * 1000 + t; // Wh
     let power = 2_300 + t % 100; // W
@@ -88,7 +88,7 @@ fn electricity(d: Data, m: Meter, tick: u32) -> Data
 fn water(d: Data, m: Meter, clock: Clock, tick: u32) -> Data
     ensures { λ r. ⌜ Put d (water tick clock (plainMeter m)) r ⌝ }
 {
-    let seed = m.seed as u64;
+    let seed = m.built.seed as u64;
     let t = tick as u64;
     let volume = 123_456 + seed * 7 + t; // l
     let d1 = bcd4(d, 0x0C, 0x13, volume);
@@ -101,19 +101,29 @@ fn water(d: Data, m: Meter, clock: Clock, tick: u32) -> Data
 fn head(m: Meter) -> Data
     ensures { λ r. ⌜ held r ≡ head (plainMeter m) ⌝ }
 {
-    let d1 = add4(empty(), meter_identity::id_bytes(m.id));
-    let d2 = add2(d1, numbers::le2(m.manufacturer as u64));
-    add6(d2, [m.version, m.medium, m.access, 0x00, 0x00, 0x00])
+    let d1 = add4(empty(), meter_identity::id_bytes(m.built.id));
+    let d2 = add2(d1, numbers::le2(m.built.manufacturer as u64));
+    add6(
+        d2,
+        [
+            m.built.version,
+            m.built.medium,
+            m.state.access,
+            0x00,
+            0x00,
+            0x00,
+        ],
+    )
 }
 
 // The fixed data structure: id, access number, status, units (kWh and m³, medium heat) and two counters.
 pub fn fixed_data(m: Meter, elapsed: f64) -> Data
     ensures { λ r. ⌜ held r ≡ fixedData elapsed (plainMeter m) ⌝ }
 {
-    let seed = m.seed as u64;
+    let seed = m.built.seed as u64;
     let energy = 12_345 + seed + time_seconds::whole_u64(elapsed) / 60;
-    let d1 = add4(empty(), meter_identity::id_bytes(m.id));
-    let d2 = add4(d1, [m.access, 0x00, 0x05, 0x6C]);
+    let d1 = add4(empty(), meter_identity::id_bytes(m.built.id));
+    let d2 = add4(d1, [m.state.access, 0x00, 0x05, 0x6C]);
     let d3 = add4(d2, numbers::bcd4(energy));
     add4(d3, numbers::bcd4(678))
 }
@@ -123,7 +133,7 @@ pub fn heat_data(m: Meter, clock: Clock, tick: u32) -> Data
     ensures { λ r. ⌜ held r ≡ head (plainMeter m) ++ heatNow tick clock (plainMeter m) ⌝ }
 {
     let d = head(m);
-    let part = m.part;
+    let part = m.state.part;
     if part == 0 {
         return heat_first(d, m, clock, tick);
     }

@@ -1,4 +1,5 @@
--- What a meter answers a REQ_UD2 with (01, "A lone meter is read"): "`rsp_ud`'s layout, C 08", and what the faults make of it.
+-- What a meter answers a REQ_UD2 with (01, "A lone meter is read"): "`rsp_ud`'s layout, C 08", and what the faults
+-- make of it.
 -- Values go by the whole seconds of the elapsed time, "stopped at the largest u32 (u64 for heat_old)".
 use mathlib.Core.List.{List, [], _∷_, _++_}
 use Prim.Native.Nat.{ℕ, _+_, _-_, _/_, _%_}
@@ -7,6 +8,7 @@ use lib.Bits.{bitXor}
 use lib.Ieee.{Float}
 use lib.ListN.{length, take, set}
 use Rattle.laws.specs.Words.{if_then_else_, at}
+use Rattle.frame.specs.Protocol.{cRspUd, ciError, ciVariable, ciFixed}
 use Rattle.frame.specs.Frame.{Telegram, long, encode}
 use Rattle.time_seconds.specs.Seconds.{whole, last32}
 use Rattle.meter.specs.PlainMeter.{PlainMeter}
@@ -32,13 +34,14 @@ address TooMany p = p
 -- C 08; CI 73 for heat_old; CI 72 for the others, and the wrong address "in CI 72 replies only"
 unfoldable pub userData : Model → Float → Clock → PlainMeter → Telegram
 userData Heat elapsed k m =
-    long 0x08 (address (m .fault) (m .primary)) 0x72
+    long cRspUd (address (m .fault) (m .primary)) ciVariable
     (head m ++ heatNow (whole last32 elapsed) k m)
-userData Electricity elapsed k m = long 0x08 (address (m .fault) (m .primary)) 0x72 (head m ++ electricity (whole last32 elapsed) m)
-userData Water elapsed k m = long 0x08 (address (m .fault) (m .primary)) 0x72 (head m ++ water (whole last32 elapsed) k m)
-userData Fixed elapsed k m = long 0x08 (m .primary) 0x73 (fixedData elapsed m)
+userData Electricity elapsed k m = long cRspUd (address (m .fault) (m .primary)) ciVariable (head m ++ electricity (whole last32 elapsed) m)
+userData Water elapsed k m = long cRspUd (address (m .fault) (m .primary)) ciVariable (head m ++ water (whole last32 elapsed) k m)
+userData Fixed elapsed k m = long cRspUd (m .primary) ciFixed (fixedData elapsed m)
 
--- "Busy: CI 70, data 08. Too_many: the third and later readouts since opening give CI 70, data 09"; 0: none. The readouts count this one.
+-- "Busy: CI 70, data 08. Too_many: the third and later readouts since opening give CI 70, data 09"; 0: none. The
+-- readouts count this one.
 abbrev pub error : Fault → ℕ → ℕ
 error None n = 0
 error Checksum n = 0
@@ -48,11 +51,11 @@ error WrongAddress n = 0
 error Flaky n = 0
 error TooMany n = if ltb 2 n then 0x09 else 0
 
--- what the meter, asked already, says
+-- what the meter, asked already, says: an error with C 08 and CI 70, or its data
 unfoldable pub response : Float → Clock → PlainMeter → Telegram
 response elapsed k m =
     if eqb (error (m .fault) (m .readouts)) 0 then userData (m .model) elapsed k m
-    else long 0x08 (m .primary) 0x70 (error (m .fault) (m .readouts) ∷ [])
+    else long cRspUd (m .primary) ciError (error (m .fault) (m .readouts) ∷ [])
 
 -- ---- faults on the bytes
 

@@ -2,12 +2,17 @@
 ghost use mathlib.Core.Path.{_≡_};
 ghost use Prim.Native.Nat.{_≤_};
 ghost use lib.ListN.{length, replicate};
+ghost use Rattle.frame.specs.Protocol.{cRspUd};
 ghost use Rattle.frame.specs.Frame.{encode, long};
 ghost use Rattle.meter_reply.specs.ProgramReply.{HeldLen, SaidLen};
 ghost use Rattle.meter_reply.specs.Response.{address, error, userData, response, damaged, readout};
 ghost use Rattle.meter.specs.View.{plainMeter};
 ghost use Rattle.meter_reply.specs.View.{said};
 ghost use Rattle.meter_data.specs.View.{held};
+use frame::C_RSP_UD;
+use frame::CI_ERROR;
+use frame::CI_FIXED;
+use frame::CI_VARIABLE;
 use frame::Frame;
 use frame_write::WriteOutcome;
 use meter::Fault;
@@ -15,15 +20,6 @@ use meter::Meter;
 use meter::Model;
 use meter_data::Data;
 use time_clock::Clock;
-
-// RSP_UD, and the CI of an error, of variable and of fixed data.
-const C_RSP_UD: u8 = 0x08;
-
-const CI_ERROR: u8 = 0x70;
-
-const CI_VARIABLE: u8 = 0x72;
-
-const CI_FIXED: u8 = 0x73;
 
 // A reply: the first `len` bytes. The longest one has 84.
 pub struct Reply {
@@ -54,22 +50,19 @@ fn no_bytes() -> [u8; 96]
 
 // RSP_UD with these data. They always fit, so the other two answers do not occur.
 fn telegram(address: u8, ci: u8, d: Data) -> Reply
-    ensures { λ r. ⌜ said r ≡ encode (long 0x08 address ci (held d)) ⌝ }
+    ensures { λ r. ⌜ said r ≡ encode (long cRspUd address ci (held d)) ⌝ }
 {
     let data = d.bytes;
     let n = held_len(d);
     let f = Frame::Long {
         control: C_RSP_UD,
-        address: address,
-        ci: ci,
+        address,
+        ci,
     };
     let mut out = no_bytes();
     let w = frame_write::encode(f, &data[..n], &mut out);
     match w {
-        WriteOutcome::Bytes(len) => Reply {
-            bytes: out,
-            len: len,
-        },
+        WriteOutcome::Bytes(len) => Reply { bytes: out, len },
         WriteOutcome::DataTooLong => Reply { bytes: out, len: 0 },
         WriteOutcome::NoRoom => Reply { bytes: out, len: 0 },
     }
@@ -91,17 +84,19 @@ fn address_of(f: Fault, primary: u8) -> u8
 }
 
 fn user_data(m: Meter, elapsed: f64, clock: Clock) -> Reply
-    ensures { λ r. ⌜ said r ≡ encode (userData (m .model) elapsed clock (plainMeter m)) ⌝ }
+    ensures { λ r. ⌜ said r ≡ encode (userData (m .built .model) elapsed clock (plainMeter m)) ⌝ }
 {
-    let model = m.model;
-    let fault = m.fault;
+    let built = m.built;
+    let model = built.model;
+    let fault = built.fault;
     let tick = time_seconds::whole_u32(elapsed);
-    let a = address_of(fault, m.primary);
+    let primary = m.state.primary;
+    let a = address_of(fault, primary);
     match model {
         Model::Heat => telegram(a, CI_VARIABLE, meter_data::heat_data(m, clock, tick)),
         Model::Electricity => telegram(a, CI_VARIABLE, meter_data::electricity_data(m, tick)),
         Model::Water => telegram(a, CI_VARIABLE, meter_data::water_data(m, clock, tick)),
-        Model::Fixed => telegram(m.primary, CI_FIXED, meter_data::fixed_data(m, elapsed)),
+        Model::Fixed => telegram(primary, CI_FIXED, meter_data::fixed_data(m, elapsed)),
     }
 }
 
@@ -124,12 +119,13 @@ fn error_code(f: Fault, readouts: u8) -> u8
 fn response(m: Meter, elapsed: f64, clock: Clock) -> Reply
     ensures { λ r. ⌜ said r ≡ encode (response elapsed clock (plainMeter m)) ⌝ }
 {
-    let fault = m.fault;
-    let code = error_code(fault, m.readouts);
+    let built = m.built;
+    let fault = built.fault;
+    let code = error_code(fault, m.state.readouts);
     if code == 0 {
         return user_data(m, elapsed, clock);
     }
-    telegram(m.primary, CI_ERROR, meter_data::error_data(code))
+    telegram(m.state.primary, CI_ERROR, meter_data::error_data(code))
 }
 
 // The sum, the last byte but one, flipped.
@@ -171,6 +167,7 @@ fn damage(f: Fault, r: Reply) -> Reply
 pub fn readout(m: Meter, elapsed: f64, clock: Clock) -> Reply
     ensures { λ r. ⌜ said r ≡ readout elapsed clock (plainMeter m) ⌝ }
 {
-    let fault = m.fault;
+    let built = m.built;
+    let fault = built.fault;
     damage(fault, response(m, elapsed, clock))
 }

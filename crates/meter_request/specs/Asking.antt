@@ -43,7 +43,8 @@ readoutsNow WrongAddress n = n
 readoutsNow Flaky n = n
 readoutsNow TooMany n = min 3 (n + 1)
 
--- the meter that answers a REQ_UD2: part and last FCB. "Then comes, raised by one, an access number that goes from 255 back to 0"; its readouts
+-- the meter that answers a REQ_UD2: part and last FCB. "Then comes, raised by one, an access number that goes from
+-- 255 back to 0"; its readouts
 unfoldable pub asked : Bool → PlainMeter → PlainMeter
 asked fcb m =
     with m (reached m) (m .selected)

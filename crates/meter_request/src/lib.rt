@@ -6,6 +6,7 @@ use meter::Fault;
 use meter::LastFcb;
 use meter::Meter;
 use meter::Model;
+use meter::changes;
 
 fn next_part(model: Model, part: u8) -> u8
     ensures { λ r. ⌜ r ≡ nextPart model part ⌝ }
@@ -57,26 +58,13 @@ fn readouts_now(f: Fault, n: u8) -> u8
 pub fn asked(m: Meter, fcb: bool) -> Meter
     ensures { λ r. ⌜ plainMeter r ≡ asked fcb (plainMeter m) ⌝ }
 {
-    let model = m.model;
-    let fault = m.fault;
-    let last = m.last;
-    let part = part_now(model, last, fcb, m.part);
-    let now = fcb_now(fcb);
-    Meter {
-        primary: m.primary,
-        id: m.id,
-        manufacturer: m.manufacturer,
-        version: m.version,
-        medium: m.medium,
-        model: model,
-        fault: fault,
-        access: std::num::wrapping_add_u8(m.access, 1),
-        baud: m.baud,
-        selected: m.selected,
-        part: part,
-        last: now,
-        readouts: readouts_now(fault, m.readouts),
-        seed: m.seed,
-        hearing: m.hearing,
-    }
+    let built = m.built;
+    let model = built.model;
+    let fault = built.fault;
+    let state = m.state;
+    let last = state.last;
+    let part = part_now(model, last, fcb, state.part);
+    let n = changes::with_standing(m, part, fcb_now(fcb));
+    let access = std::num::wrapping_add_u8(state.access, 1);
+    changes::with_counters(n, access, readouts_now(fault, state.readouts))
 }

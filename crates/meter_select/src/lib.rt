@@ -20,10 +20,7 @@ fn wide(b: u8) -> u32
 fn fits(mask: u32, any: u32, own: u32) -> bool
     ensures { λ r. ⌜ r ≡ (eqb mask any || eqb mask own) ⌝ }
 {
-    if mask == any {
-        return true;
-    }
-    mask == own
+    mask == any || mask == own
 }
 
 // Two digits of the mask, a byte, against two of the id.
@@ -31,10 +28,7 @@ fn digits_fit(mask: u8, own: u32) -> bool
     ensures { λ r. ⌜ r ≡ alike (mask / 16 ∷ mask % 16 ∷ []) (own / 16 ∷ own % 16 ∷ []) ⌝ }
 {
     let m = wide(mask);
-    if fits(m / 16, 0xF, own / 16) {
-        return fits(m % 16, 0xF, own % 16);
-    }
-    false
+    fits(m / 16, 0xF, own / 16) && fits(m % 16, 0xF, own % 16)
 }
 
 // The eight digits of the id, two by two from the most significant ones.
@@ -80,10 +74,10 @@ fn id_matches(id: u32, data: &[u8]) -> bool
 pub fn matches(m: Meter, data: &[u8]) -> bool
     ensures { λ r. ⌜ r ≡ matches (now («data» .entry)) (plainMeter m) ⌝ }
 {
-    if id_matches(m.id, data) {
-        if manufacturer_fits(data[4], data[5], m.manufacturer) {
-            if byte_fits(data[6], m.version) {
-                return byte_fits(data[7], m.medium);
+    if id_matches(m.built.id, data) {
+        if manufacturer_fits(data[4], data[5], m.built.manufacturer) {
+            if byte_fits(data[6], m.built.version) {
+                return byte_fits(data[7], m.built.medium);
             }
         }
     }

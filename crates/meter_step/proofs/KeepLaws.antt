@@ -1,4 +1,5 @@
--- What a telegram keeps of a meter: whatever its single changes keep. So the id's digits, the manufacturer and the like never change,
+-- What a telegram keeps of a meter: whatever its single changes keep. So the id's digits, the manufacturer and the
+-- like never change,
 -- and the rate changes by a CI of B8 to BF alone.
 use mathlib.Core.Path.{_≡_, refl}
 use mathlib.Core.Bool.{Bool, true, false, _||_, not}

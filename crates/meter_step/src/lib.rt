@@ -29,7 +29,7 @@ pub struct Heard {
 pub fn hear(m: Meter, bus: u32, frame: Frame, data: &[u8]) -> Heard
     ensures { λ r. ⌜ ((e : Float) (k : Clock) → heardOf e k r ≡ hear bus (telegramOf frame (now («data» .entry))) e k (plainMeter m)) ⌝ }
 {
-    if m.baud == bus {
+    if m.state.baud == bus {
         match frame {
             Frame::Ack => steps::quiet(m),
             Frame::Short { control, address } => steps::hear_short(m, control, address),

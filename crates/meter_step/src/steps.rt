@@ -85,7 +85,7 @@ fn command(m: Meter, ci: u8, data: &[u8]) -> Heard
         return acknowledged(changes::with_primary(m, data[2]));
     }
     if telegrams::sets_baud(ci, data) {
-        return acknowledged(changes::with_baud(m, meter::rate_of(ci - 0xB8)));
+        return acknowledged(changes::with_baud(m, meter::rate_of(ci - frame::CI_FIRST_BAUD)));
     }
     if ci == frame::CI_APP_RESET {
         return acknowledged(changes::reset(m));

@@ -2,6 +2,7 @@
 ghost use mathlib.Core.Path.{_≡_};
 ghost use mathlib.Core.Bool.{_||_};
 ghost use lib.Dec.{eqb};
+ghost use Rattle.frame.specs.Protocol.{addrSelected, addrBroadcastReply, addrBroadcast};
 ghost use Rattle.meter_step.specs.Hear.{isNke, isReqUd2, fcbOf, isSndUd, isSelect, setsPrimary, setsBaud, reaches, target};
 ghost use Rattle.meter.specs.View.{plainMeter};
 use meter::Meter;
@@ -9,34 +10,31 @@ use meter::Meter;
 pub(crate) fn is_nke(control: u8) -> bool
     ensures { λ r. ⌜ r ≡ isNke control ⌝ }
 {
-    control == frame_master::C_SND_NKE
+    control == frame::C_SND_NKE
 }
 
 pub(crate) fn is_req_ud2(control: u8) -> bool
     ensures { λ r. ⌜ r ≡ isReqUd2 control ⌝ }
 {
-    control & 0xCF == 0x4B
+    control & frame::C_MASK == frame::C_REQ_UD2_MASKED
 }
 
 pub(crate) fn fcb_of(control: u8) -> bool
     ensures { λ r. ⌜ r ≡ fcbOf control ⌝ }
 {
-    control & frame_master::FCB != 0
+    control & frame::FCB != 0
 }
 
 pub(crate) fn is_snd_ud(control: u8) -> bool
     ensures { λ r. ⌜ r ≡ isSndUd control ⌝ }
 {
-    control & 0xCF == 0x43
+    control & frame::C_MASK == frame::C_SND_UD_MASKED
 }
 
 pub(crate) fn is_select(ci: u8, address: u8) -> bool
     ensures { λ r. ⌜ r ≡ isSelect ci address ⌝ }
 {
-    if ci == frame::CI_SELECT {
-        return address == frame::ADDR_SELECTED;
-    }
-    false
+    ci == frame::CI_SELECT && address == frame::ADDR_SELECTED
 }
 
 // A new primary address: the data are 01 7A and the address.
@@ -57,10 +55,10 @@ pub(crate) fn sets_primary(ci: u8, data: &[u8]) -> bool
 pub(crate) fn sets_baud(ci: u8, data: &[u8]) -> bool
     ensures { λ r. ⌜ r ≡ setsBaud ci (now («data» .entry)) ⌝ }
 {
-    if ci < 0xB8 {
+    if ci < frame::CI_FIRST_BAUD {
         return false;
     }
-    if 0xBF < ci {
+    if frame::CI_LAST_BAUD < ci {
         return false;
     }
     data.len() == 0
@@ -68,12 +66,9 @@ pub(crate) fn sets_baud(ci: u8, data: &[u8]) -> bool
 
 // Addresses FE and FF reach every meter.
 fn reaches_all(address: u8) -> bool
-    ensures { λ r. ⌜ r ≡ (eqb address 0xFE || eqb address 0xFF) ⌝ }
+    ensures { λ r. ⌜ r ≡ (eqb address addrBroadcastReply || eqb address addrBroadcast) ⌝ }
 {
-    if address == frame::ADDR_BROADCAST_REPLY {
-        return true;
-    }
-    address == frame::ADDR_BROADCAST
+    address == frame::ADDR_BROADCAST_REPLY || address == frame::ADDR_BROADCAST
 }
 
 // FE and FF reach all, FD the selected, any other the meter with this primary address.
@@ -92,15 +87,12 @@ fn reaches(address: u8, primary: u8, selected: bool) -> bool
 pub(crate) fn is_target(m: Meter, address: u8) -> bool
     ensures { λ r. ⌜ r ≡ target address (plainMeter m) ⌝ }
 {
-    reaches(address, m.primary, m.selected)
+    reaches(address, m.state.primary, m.state.selected)
 }
 
 // Addresses FD and FF, to which an NKE deselects.
 pub(crate) fn deselects(to: u8) -> bool
-    ensures { λ r. ⌜ r ≡ (eqb to 0xFD || eqb to 0xFF) ⌝ }
+    ensures { λ r. ⌜ r ≡ (eqb to addrSelected || eqb to addrBroadcast) ⌝ }
 {
-    if to == frame::ADDR_SELECTED {
-        return true;
-    }
-    to == frame::ADDR_BROADCAST
+    to == frame::ADDR_SELECTED || to == frame::ADDR_BROADCAST
 }

@@ -1,8 +1,12 @@
--- A part of a local array is lent to a call as a `&mut [T]`, and the array is whole again after it. For elements of any type of one machine value, and arrays of any length; it says nothing of this program.
+-- A part of a local array is lent to a call as a `&mut [T]`, and the array is whole again after it. For elements of
+-- any type of one machine value, and arrays of any length; it says nothing of this program.
 --     array-cells, cells-array     the array in its local is its elements in memory, and back
---     Aside            what the lender keeps of the loan of the first k elements: the way back, and the elements behind them
---     lends-part       the array xs in the local b, and what it owns  ⊢ ⇛  a new lifetime's token, the `&mut [T]` of its first k elements, and what is kept aside
---     part-back        that token, what was kept aside and the slice's last elements ys  ⊢ ⇛  the array `ys ++ drop k xs` in the local, at some machine value, and what it owns
+--     Aside            what the lender keeps of the loan of the first k elements: the way back, and the elements
+--                      behind them
+--     lends-part       the array xs in the local b, and what it owns  ⊢ ⇛  a new lifetime's token, the `&mut [T]` of
+--                      its first k elements, and what is kept aside
+--     part-back        that token, what was kept aside and the slice's last elements ys  ⊢ ⇛  the array `ys ++ drop k
+--                      xs` in the local, at some machine value, and what it owns
 --     lend-part, take-part     the same two, as steps of a walk
 -- At k = the array's length it is the whole array that is lent. Assumes `Given`.
 use mathlib.Core.Path.{_≡_, refl, sym, _∙_, subst}

@@ -88,7 +88,8 @@ module _ {M : Type 1} (𝓤 : URA M) (H : Heap 𝓤) (A : Atoms 𝓤) (W : Given
   pub listed-said : (d : Searched) (es : List EntryRecord) (r : Entries) → ent 𝓤 (ensured 𝓤 H A listed.ended (listed.clauses 𝓤 H A mem run) tt (d, (es, tt)) tt r) (fact 𝓤 (r ≡ listedOf d es))
   listed-said d es r = exE 𝓤 _ (λ ws. snd∗ 𝓤 (sem 𝓤 H A (lasts listed.ended tt (d, (es, tt)) ws)) (fact 𝓤 (r ≡ listedOf d es)))
 
--- ---- the search's call: the image is passed on at its own lifetime, and given up for good; the records, k of them, have a lifetime α of their own
+-- ---- the search's call: the image is passed on at its own lifetime, and given up for good; the records, k of them,
+-- have a lifetime α of their own
 module _ {M : Type 1} (𝓤 : URA M) (H : Heap 𝓤) (A : Atoms 𝓤) (W : Given 𝓤 H A) (mem : Memory → SProp 𝓤) (run : Routine → Fun 𝓤) (κ : Lft) (q : Share) (b o : ℕ) (γ : GName) (old : List ℕ)
     (t : Clock) (tv : Val) (w : ℕ) (is-t : Is K.the-row t (tv ∷ [])) (is-w : Is u32 w (vint w32 w ∷ [])) (α : ℕ) (b′ : ℕ) (γ′ : GName) (xs : List EntryRecord) (k : ℕ) where
   abbrev pub image : RefT (List ℕ)

@@ -1,4 +1,5 @@
--- A search into records of its own, of which a part is lent, is 01's search into any records of which there is room for as many.
+-- A search into records of its own, of which a part is lent, is 01's search into any records of which there is room
+-- for as many.
 use mathlib.Core.Path.{_≡_, refl, sym, ap, _∙_, subst}
 use mathlib.Core.Bool.{Bool, true, false, not}
 use mathlib.Core.List.{List, _++_, map}

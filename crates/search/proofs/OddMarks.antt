@@ -1,4 +1,5 @@
--- After a mask, an odd mark is one of a meter at bus baud that has the prefix and was reset; the acknowledgements are the odd marks.
+-- After a mask, an odd mark is one of a meter at bus baud that has the prefix and was reset; the acknowledgements are
+-- the odd marks.
 use mathlib.Core.Path.{_≡_, refl, sym, ap, ap₂, _∙_}
 use mathlib.Core.Bool.{Bool, true, false, _&&_, _||_, not, false≢true, and-false, or-true}
 use mathlib.Core.List.{List, [], _∷_}

@@ -94,9 +94,9 @@ module _ (l : List ℕ) where
     read-all e = subst (Every P) (take-all i (decodeImage l .meters) (omega arith)) q
 
 -- what the program's types say
-pub meter-bounded : (m : Meter) → m .id < 0x100000000 → m .access < 256 → m .readouts < 256 → Bounded (plainMeter m)
+pub meter-bounded : (m : Meter) → m .built .id < 0x100000000 → m .state .access < 256 → m .state .readouts < 256 → Bounded (plainMeter m)
 meter-bounded m h a r =
-    let e = id-key (m .id) h in
+    let e = id-key (m .built .id) h in
     record { key = omega (arith, e); digits = ap digitsOf (sym e); access = a; readouts = r }
 
 -- the first i meters are as their marks have them, and all else is as it was
@@ -139,11 +139,11 @@ module _ (bus : ℕ) (m : PlainMeter) where
 
 -- ---- a meter back from its mark
 
-pub unmark-here : (bus s : ℕ) (m : Meter) (l : LastFcb) (p : ℕ) → m .baud ≡ bus → l ≡ lastIn (on (s / 8 % 2)) (on (s / 2 % 2)) (m .last) → p ≡ partIn (on (s / 8 % 2)) (on (s / 2 % 2)) (m .part)
-    → with (plainMeter m) (m .primary, m .baud) (on (s % 2)) (p, l) (s / 65536 % 256, s / 256 % 256) (on (s / 4 % 2)) ≡ seenAs bus (plainMeter m) s
+pub unmark-here : (bus s : ℕ) (m : Meter) (l : LastFcb) (p : ℕ) → m .state .baud ≡ bus → l ≡ lastIn (on (s / 8 % 2)) (on (s / 2 % 2)) (m .state .last) → p ≡ partIn (on (s / 8 % 2)) (on (s / 2 % 2)) (m .state .part)
+    → with (plainMeter m) (m .state .primary, m .state .baud) (on (s % 2)) (p, l) (s / 65536 % 256, s / 256 % 256) (on (s / 4 % 2)) ≡ seenAs bus (plainMeter m) s
 unfolding seenAs asMarked
-unmark-here bus s m l p h el ep = rw (eq-eqb (m .baud) bus h, el, ep)
+unmark-here bus s m l p h el ep = rw (eq-eqb (m .state .baud) bus h, el, ep)
 
-pub unmark-away : (bus s : ℕ) (m : Meter) → (m .baud ≡ bus → ⊥) → plainMeter m ≡ seenAs bus (plainMeter m) s
+pub unmark-away : (bus s : ℕ) (m : Meter) → (m .state .baud ≡ bus → ⊥) → plainMeter m ≡ seenAs bus (plainMeter m) s
 unfolding seenAs
-unmark-away bus s m h = rw (ne-eqb (m .baud) bus h)
+unmark-away bus s m h = rw (ne-eqb (m .state .baud) bus h)

@@ -1,4 +1,5 @@
--- Sending a mask to packed meters is 01's probe of the segment that they stand for: the mask goes through send, the E5 are counted, the reply is taken whole.
+-- Sending a mask to packed meters is 01's probe of the segment that they stand for: the mask goes through send, the
+-- E5 are counted, the reply is taken whole.
 use mathlib.Core.Path.{_≡_, refl, sym, ap, ap₂, _∙_}
 use mathlib.Core.Bool.{Bool, true, false, _&&_, _||_, not, and-comm}
 use mathlib.Core.List.{List, [], _∷_, map}

@@ -1,4 +1,5 @@
--- Reading the one selected of packed meters is 01's reading of the segment that they stand for: REQ_UD2 goes through send, and the reply is taken whole.
+-- Reading the one selected of packed meters is 01's reading of the segment that they stand for: REQ_UD2 goes through
+-- send, and the reply is taken whole.
 use mathlib.Core.Path.{_≡_, refl, sym, ap, ap₂, _∙_, subst}
 use mathlib.Core.Bool.{Bool, true, false, _&&_, _||_, not, and-false}
 use mathlib.Core.List.{List, [], _∷_, map}

@@ -103,16 +103,13 @@ pub record Parts (u y f h c a r v : ℕ) : Type 0 where
   pub readouts : u / 256 % 256 ≡ r
   pub kind : u / 16 % 16 ≡ v
 
-read-parts : (s h c u : ℕ) → h ≤ 1 → c < 256 → u ≡ s / 16 % 16 * 16 + 8 + h * 4 + s % 4 + c * 256 + (s / 65536 + 1) % 256 * 65536
+read-parts : (s h c u : ℕ) → h ≤ 1 → c < 256 → u ≡ s / 16 % 16 * 16 + 8 + h * 4 + s % 4 + c * 256 + (s / 65536 % 256 + 1) % 256 * 65536
     → Parts u (s % 2) (s / 2 % 2) h 1 ((s / 65536 % 256 + 1) % 256) c (s / 16 % 16)
 read-parts s h c u ph pc e =
     let l = low-bits s in
-    let n = near (s % 4) h (s / 16 % 16 * 2 + 1 + c * 32 + (s / 65536 + 1) % 256 * 8192) u (l .2) ph (omega arith) in
-    let w = wide (s / 16 % 16) c ((s / 65536 + 1) % 256) u (l .3) pc (omega arith) (n .3) in
-    record { selected = n .0 ∙ l .0; fresh = n .1 ∙ l .1; hears = n .2; clear = w .0; access = w .1 ∙ access-is (s / 65536); readouts = w .2; kind = w .3 }
-  where
-    access-is : (x : ℕ) → (x + 1) % 256 ≡ (x % 256 + 1) % 256
-    access-is x = omega arith
+    let n = near (s % 4) h (s / 16 % 16 * 2 + 1 + c * 32 + (s / 65536 % 256 + 1) % 256 * 8192) u (l .2) ph (omega arith) in
+    let w = wide (s / 16 % 16) c ((s / 65536 % 256 + 1) % 256) u (l .3) pc (omega arith) (n .3) in
+    record { selected = n .0 ∙ l .0; fresh = n .1 ∙ l .1; hears = n .2; clear = w .0; access = w .1; readouts = w .2; kind = w .3 }
 
 missed-parts : (s h u : ℕ) → h ≤ 1 → u ≡ s / 8 * 8 + h * 4 + s % 4 → Parts u (s % 2) (s / 2 % 2) h (s / 8 % 2) (s / 65536 % 256) (s / 256 % 256) (s / 16 % 16)
 missed-parts s h u ph e =
@@ -127,7 +124,7 @@ parts-stand m u y f h c a r v p = rw (p .selected, p .fresh, p .hears, p .clear,
 
 -- ---- by whether the meter answers the reading
 
-answers-mark : (s : ℕ) → yesOf s (s % 2) ≡ 1 → readMark s ≡ s / 16 % 16 * 16 + 8 + hearsOf s (s % 2) * 4 + s % 4 + readoutsIn s % 256 * 256 + (s / 65536 + 1) % 256 * 65536
+answers-mark : (s : ℕ) → yesOf s (s % 2) ≡ 1 → readMark s ≡ s / 16 % 16 * 16 + 8 + hearsOf s (s % 2) * 4 + s % 4 + readoutsIn s % 256 * 256 + (s / 65536 % 256 + 1) % 256 * 65536
 unfolding readMark
 answers-mark s e = rw e
 
@@ -216,7 +213,7 @@ module _ (m : PlainMeter) (s : ℕ) (q : Fresh m s) where
       ∙ rw (q .selected, q .fresh, q .clear, hearing-is)
   afterwards (suc zero) h e =
       parts-stand m (readMark s) _ _ _ _ _ _ _ (read-parts s (hearsOf s 1) (readoutsIn s % 256) (readMark s) (bit-small (hears-bit s true)) (omega arith)
-      (answers-mark s (ap (yesOf s) (q .selected) ∙ e) ∙ ap (λ x. s / 16 % 16 * 16 + 8 + hearsOf s x * 4 + s % 4 + readoutsIn s % 256 * 256 + (s / 65536 + 1) % 256 * 65536) (q .selected)))
+      (answers-mark s (ap (yesOf s) (q .selected) ∙ e) ∙ ap (λ x. s / 16 % 16 * 16 + 8 + hearsOf s x * 4 + s % 4 + readoutsIn s % 256 * 256 + (s / 65536 % 256 + 1) % 256 * 65536) (q .selected)))
       ∙ rw (q .selected, hearing-is, counted (s / 128 % 2) (s / 256 % 256) (omega arith) (m .fault) (q .bits .many) (omega arith))
   afterwards (suc (suc y)) h e = absurd (omega arith)
 

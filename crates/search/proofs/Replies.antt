@@ -1,4 +1,5 @@
--- A mark whose reply is good, by the fault and the readouts that it has; what a telegram leaves of a meter that replies; no reply.
+-- A mark whose reply is good, by the fault and the readouts that it has; what a telegram leaves of a meter that
+-- replies; no reply.
 use mathlib.Core.Path.{_≡_, refl, ap, ap₂, _∙_}
 use mathlib.Core.Bool.{Bool, true, false, _&&_, _||_, not}
 use mathlib.Core.List.{List, []}

@@ -1,4 +1,5 @@
--- What demand 3 claims of one search. calls/specs/Demand says it of the program's own routines, after every list of calls.
+-- What demand 3 claims of one search. calls/specs/Demand says it of the program's own routines, after every list of
+-- calls.
 use mathlib.Core.Path.{_≡_}
 use mathlib.Core.Bool.{true}
 use mathlib.Core.List.{List, _++_, map}
@@ -13,7 +14,8 @@ use Rattle.search.specs.SearchCall.{recordOf, Searched}
 
 -- what a search gives, r, on the segment s with the walk w
 pub record Demanded (allowance : ℕ) (lent : List EntryRecord) (s : Plain) (w : Walked) (r : Searched) : Type 0 where
-  -- "In every case the entries, the number of probes .., spent or not, and the segment afterwards are those that the walk above gives over the plain segment"
+  -- "In every case the entries, the number of probes .., spent or not, and the segment afterwards are those that the
+  -- walk above gives over the plain segment"
   pub count : r .count ≡ length (w .entries)
   pub written : r .lent ≡ map recordOf (w .entries) ++ drop (length (w .entries)) lent
   pub probes : r .probes ≡ w .probes
@@ -25,5 +27,6 @@ pub record Demanded (allowance : ℕ) (lent : List EntryRecord) (s : Plain) (w :
   pub fits : length (w .entries) ≤ length (s .meters)
   -- more is claimed with no flaky meter at bus baud
   pub steady : NoFlaky s → Steady allowance (atBusBaud s) w
-  -- the bound on the price, in every case: over k = 0 to 7, the sum of the lesser of 10^k and n/2 rounded down, n the meters at bus baud
+  -- the bound on the price, in every case: over k = 0 to 7, the sum of the lesser of 10^k and n/2 rounded down, n the
+  -- meters at bus baud
   pub bound : let n = length (atBusBaud s) in 1 + 10 * D (atBusBaud s) ≤ 1 + 10 * sumTo 8 (λ k. min (10 ^ k) (n / 2))

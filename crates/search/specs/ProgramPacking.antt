@@ -1,4 +1,5 @@
--- How the program's search packs the meters, and what a meter and an entry are that are packed. The words are the program's:
+-- How the program's search packs the meters, and what a meter and an entry are that are packed. The words are the
+-- program's:
 -- that the packed search finds what 01's finds is proved (proofs/PackedWalk).
 use mathlib.Core.Path.{_≡_}
 use mathlib.Core.Bool.{Bool, true, false}
@@ -16,6 +17,7 @@ use Rattle.meter.specs.declared.LastFcb.{LastFcb}
 use Rattle.meter.specs.declared.LastFcb.the-variants.{Never, Clear}
 use Rattle.list_open.specs.Opening.{capacity}
 use Rattle.segment.specs.Plain.{Plain, withMeters}
+use Rattle.search_packed.specs.ProgramBits.{FRESH, HEARS, CLEAR, STEADY, FLAKY, FAILS, TOO-MANY, READOUTS, ACCESS}
 use Rattle.search_packed.specs.ProgramMarks.{sweptBy}
 use Rattle.search.specs.declared.EntryRecord.{EntryRecord}
 use Rattle.search.specs.declared.Kind.{Kind}
@@ -23,20 +25,20 @@ use Rattle.search.specs.declared.Kind.the-variants.{One, Mute, Many}
 
 -- ---- a meter's mark
 
--- 16 steady, 32 flaky; 64 its reading always fails, 128 too_many
+-- the places of a mark that a fault sets
 abbrev pub faultBits : Fault → ℕ
-faultBits None = 16
-faultBits Checksum = 80
-faultBits Truncated = 80
-faultBits Busy = 80
-faultBits WrongAddress = 16
-faultBits Flaky = 32
-faultBits TooMany = 144
+faultBits None = STEADY
+faultBits Checksum = STEADY + FAILS
+faultBits Truncated = STEADY + FAILS
+faultBits Busy = STEADY + FAILS
+faultBits WrongAddress = STEADY
+faultBits Flaky = FLAKY
+faultBits TooMany = STEADY + TOO-MANY
 
 -- the mark with which a search begins
 unfoldable pub markOf : ℕ → PlainMeter → ℕ
 markOf bus m =
-    if eqb (m .baud) bus then bitIf (m .selected) + bitIf (m .hearsNext) * 4 + faultBits (m .fault) + m .readouts * 256 + m .access * 65536
+    if eqb (m .baud) bus then bitIf (m .selected) + bitIf (m .hearsNext) * HEARS + faultBits (m .fault) + m .readouts * READOUTS + m .access * ACCESS
     else 0
 
 -- a meter's key: its id as a number
@@ -78,7 +80,7 @@ stand m selected fresh hears clear access readouts =
 
 -- a meter at bus baud, as its mark has it
 unfoldable pub asMarked : PlainMeter → ℕ → PlainMeter
-asMarked m s = stand m (on (s % 2)) (on (s / 2 % 2)) (on (s / 4 % 2)) (on (s / 8 % 2)) (s / 65536 % 256) (s / 256 % 256)
+asMarked m s = stand m (on (s % 2)) (on (s / FRESH % 2)) (on (s / HEARS % 2)) (on (s / CLEAR % 2)) (s / ACCESS % 256) (s / READOUTS % 256)
 
 -- a meter at another baud is left as it was
 unfoldable pub seenAs : ℕ → PlainMeter → ℕ → PlainMeter

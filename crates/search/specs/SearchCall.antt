@@ -5,6 +5,7 @@ use Prim.Native.Nat.{ℕ}
 use lib.Dec.{eqb, ltb}
 use lib.ListN.{length, drop}
 use Rattle.laws.specs.Words.{if_then_else_}
+use Rattle.laws.specs.Refusal.{notRefused, refusedClock, refusedNotEmpty, refusedEntries}
 use Rattle.time_clock.specs.declared.Clock.{Clock}
 use Rattle.segment.specs.Plain.{Plain}
 use Rattle.time_clock.specs.Fields.{goodClock}
@@ -19,7 +20,8 @@ recordOf (one id) = record { kind = One; digits = id; count = 1 }
 recordOf (mute p) = record { kind = Mute; digits = maskDigits p; count = 1 }
 recordOf (many id n) = record { kind = Many; digits = id; count = n }
 
--- what a search gives: the number of its refusal (0: accepted), how many entries were written, the probes made, spent or not, the lent records and the segment afterwards
+-- what a search gives: the number of its refusal (0: accepted), how many entries were written, the probes made, spent
+-- or not, the lent records and the segment afterwards
 pub record Searched : Type 0 where
   pub number : ℕ
   pub count : ℕ
@@ -28,15 +30,17 @@ pub record Searched : Type 0 where
   pub lent : List EntryRecord
   pub segment : Plain
 
--- "Each gives its number; segment and lent memory stay." It gives no entries and no probes, and is not spent (docs/DECISIONS.md).
+-- "Each gives its number; segment and lent memory stay." It gives no entries and no probes, and is not spent
+-- (docs/DECISIONS.md).
 abbrev pub searchRefused : ℕ → List EntryRecord → Plain → Searched
 searchRefused n lent s = record { number = n; count = 0; probes = 0; spent = false; lent = lent; segment = s }
 
--- "Entries are written into entry records that the caller lends; further ones stay. The number of probes made comes back with the list."
+-- "Entries are written into entry records that the caller lends; further ones stay. The number of probes made comes
+-- back with the list."
 abbrev pub searchGave : List EntryRecord → Walked → Searched
 searchGave lent w =
     record {
-      number = 0;
+      number = notRefused;
       count = length (w .entries);
       probes = w .probes;
       spent = w .spent;
@@ -48,10 +52,11 @@ searchGave lent w =
 abbrev pub isEmpty : Plain → Bool
 isEmpty s = eqb (length (s .input)) 0 && eqb (length (s .queue)) 0
 
--- "Search checks 14, 16, 17": a clock field out of range; input or queue not empty; fewer entries lent than meters opened
+-- "Search checks 14, 16, 17." 14: a clock field out of range; 16: input or queue not empty; 17: fewer entries lent
+-- than meters opened
 unfoldable pub searchCall : Clock → ℕ → List EntryRecord → Plain → Searched
 searchCall k allowance lent s =
-    if not (goodClock k) then searchRefused 14 lent s else
-    if not (isEmpty s) then searchRefused 16 lent s else
-    if ltb (length lent) (length (s .meters)) then searchRefused 17 lent s else
+    if not (goodClock k) then searchRefused refusedClock lent s else
+    if not (isEmpty s) then searchRefused refusedNotEmpty lent s else
+    if ltb (length lent) (length (s .meters)) then searchRefused refusedEntries lent s else
     searchGave lent (wholeWalk k allowance s)

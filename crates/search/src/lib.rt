@@ -1,4 +1,5 @@
-// The search: the meters of a segment's image are packed into numbers, the walk runs over these, and what it found and left is unpacked.
+// The search: the meters of a segment's image are packed into numbers, the walk runs over these, and what it found
+// and left is unpacked.
 ghost use mathlib.Core.Path.{_≡_};
 ghost use Prim.Native.Nat.{_<_};
 ghost use Rattle.list_open.specs.Opening.{capacity};
@@ -23,7 +24,8 @@ pub enum Kind {
     Many,
 }
 
-// An entry as the caller lends it: its kind; the eight digits of its id or mask, most significant first, F for unknown; the E5 counted.
+// An entry as the caller lends it: its kind; the eight digits of its id or mask, most significant first, F for
+// unknown; the E5 counted.
 pub struct EntryRecord {
     pub kind: Kind,
     pub digits: [u8; 8],
@@ -42,10 +44,10 @@ pub fn outcome_number(outcome: SearchOutcome) -> u32
     ensures { λ r. ⌜ r ≡ outcomeNumber outcome ⌝ }
 {
     match outcome {
-        SearchOutcome::Made => 0,
-        SearchOutcome::ClockOutOfRange => 14,
-        SearchOutcome::NotEmpty => 16,
-        SearchOutcome::TooFewLent => 17,
+        SearchOutcome::Made => laws::refused::NOT_REFUSED,
+        SearchOutcome::ClockOutOfRange => laws::refused::CLOCK,
+        SearchOutcome::NotEmpty => laws::refused::NOT_EMPTY,
+        SearchOutcome::TooFewLent => laws::refused::ENTRIES,
     }
 }
 
@@ -64,8 +66,8 @@ fn refused(outcome: SearchOutcome) -> Entries
 {
     let entries = pack::blank_records();
     Entries {
-        outcome: outcome,
-        entries: entries,
+        outcome,
+        entries,
         count: 0,
         probes: 0,
         spent: false,
@@ -136,7 +138,7 @@ fn answer(core: Entries) -> Searched
 {
     let outcome = core.outcome;
     Searched {
-        outcome: outcome,
+        outcome,
         count: core.count,
         probes: core.probes,
         spent: core.spent,
@@ -150,7 +152,8 @@ fn entry_at(entries: [EntryRecord; METERS], i: usize) -> EntryRecord
     entries[i]
 }
 
-// A search of the segment that an image means: the entries are written into the lent records, further ones stay. A refused search writes none.
+// A search of the segment that an image means: the entries are written into the lent records, further ones stay. A
+// refused search writes none.
 pub fn search(
     image: &mut [u8; IMAGE],
     clock: Clock,
@@ -177,7 +180,7 @@ fn listed(found: Searched, records: [EntryRecord; METERS]) -> Entries
 {
     let outcome = found.outcome;
     Entries {
-        outcome: outcome,
+        outcome,
         entries: records,
         count: found.count,
         probes: found.probes,
@@ -185,7 +188,8 @@ fn listed(found: Searched, records: [EntryRecord; METERS]) -> Entries
     }
 }
 
-// A search that gives its entries by value: it lends records of its own, as many as the caller has room for, and no more than a segment has meters.
+// A search that gives its entries by value: it lends records of its own, as many as the caller has room for, and no
+// more than a segment has meters.
 pub fn search_listed(image: &mut [u8; IMAGE], clock: Clock, allowance: u32, room: usize) -> Entries
     ensures { λ r. ⌜ SearchesIn (now (image .entry)) clock allowance room r (now (image .exit)) ⌝ }
 {

@@ -1,7 +1,7 @@
 // From the meters of an image to their keys and marks and back, and from an entry's number to its record.
 ghost use mathlib.Core.Path.{_≡_};
 ghost use mathlib.Core.List.{map};
-ghost use Prim.Native.Nat.{_≤_, min};
+ghost use Prim.Native.Nat.{_+_, _≤_, min};
 ghost use lib.ListN.{take, replicate};
 ghost use Rattle.laws.specs.Words.{Every};
 ghost use Rattle.meter_identity.specs.Identity.{digitsOf};
@@ -9,6 +9,7 @@ ghost use Rattle.meter.specs.View.{plainMeter};
 ghost use Rattle.list_open.specs.Opening.{capacity};
 ghost use Rattle.segment_image.specs.Image.{decodeImage};
 ghost use Rattle.segment_places.specs.ProgramBecomes.{Becomes};
+ghost use Rattle.search_packed.specs.ProgramBits.{STEADY, TOO-MANY};
 ghost use Rattle.search.specs.ProgramPacking.{faultBits, keyOf, markOf, Bounded, packed, lastIn, partIn, seenAs, unmarked, kindIn, countIn, recordIn};
 use crate::EntryRecord;
 use crate::Kind;
@@ -17,6 +18,16 @@ use laws::least;
 use meter::Fault;
 use meter::LastFcb;
 use meter::Meter;
+use meter::State;
+use search_packed::bits::ACCESS;
+use search_packed::bits::CLEAR;
+use search_packed::bits::FAILS;
+use search_packed::bits::FLAKY;
+use search_packed::bits::FRESH;
+use search_packed::bits::HEARS;
+use search_packed::bits::READOUTS;
+use search_packed::bits::STEADY;
+use search_packed::bits::TOO_MANY;
 use segment::METERS;
 use segment_image::IMAGE;
 use segment_places::head;
@@ -31,33 +42,37 @@ fn zeros() -> [u32; METERS]
 
 // The bits of a mark that say what kind of meter it is.
 fn fault_bits(fault: Fault) -> u32
-    ensures { λ r. ⌜ (r ≡ faultBits fault) × (r ≤ 144) ⌝ }
+    ensures { λ r. ⌜ (r ≡ faultBits fault) × (r ≤ STEADY + TOO-MANY) ⌝ }
 {
     match fault {
-        Fault::None => 16,
-        Fault::Checksum => 80,
-        Fault::Truncated => 80,
-        Fault::Busy => 80,
-        Fault::WrongAddress => 16,
-        Fault::Flaky => 32,
-        Fault::TooMany => 144,
+        Fault::None => STEADY,
+        Fault::Checksum => STEADY + FAILS,
+        Fault::Truncated => STEADY + FAILS,
+        Fault::Busy => STEADY + FAILS,
+        Fault::WrongAddress => STEADY,
+        Fault::Flaky => FLAKY,
+        Fault::TooMany => STEADY + TOO_MANY,
     }
 }
 
 fn key_of(m: Meter) -> u32
     ensures { λ r. ⌜ r ≡ keyOf (plainMeter m) ⌝ }
 {
-    m.id
+    m.built.id
 }
 
 // The mark with which a search begins.
 fn mark_of(m: Meter, bus: u32) -> u32
     ensures { λ r. ⌜ (r ≡ markOf bus (plainMeter m)) × Bounded (plainMeter m) ⌝ }
 {
-    if m.baud == bus {
-        let fault = m.fault;
-        let low = bit(m.selected) + bit(m.hearing) * 4;
-        return low + fault_bits(fault) + m.readouts as u32 * 256 + m.access as u32 * 65536;
+    if m.state.baud == bus {
+        let built = m.built;
+        let fault = built.fault;
+        let low = bit(m.state.selected) + bit(m.state.hearing) * HEARS;
+        return low
+            + fault_bits(fault)
+            + m.state.readouts as u32 * READOUTS
+            + m.state.access as u32 * ACCESS;
     }
     0
 }
@@ -119,31 +134,25 @@ fn last_in(clear: bool, fresh: bool, last: LastFcb) -> LastFcb
 fn unmark(m: Meter, bus: u32, mark: u32) -> Meter
     ensures { λ r. ⌜ plainMeter r ≡ seenAs bus (plainMeter m) mark ⌝ }
 {
-    if m.baud == bus {
-        let fresh = mark / 2 % 2 == 1;
-        let clear = mark / 8 % 2 == 1;
-        let model = m.model;
-        let fault = m.fault;
-        let before = m.last;
-        let last = last_in(clear, fresh, before);
-        let part = part_in(clear, fresh, m.part);
-        return Meter {
-            primary: m.primary,
-            id: m.id,
-            manufacturer: m.manufacturer,
-            version: m.version,
-            medium: m.medium,
-            model: model,
-            fault: fault,
-            access: (mark / 65536 % 256) as u8,
-            baud: m.baud,
+    if m.state.baud == bus {
+        let fresh = mark / FRESH % 2 == 1;
+        let clear = mark / CLEAR % 2 == 1;
+        let built = m.built;
+        let before = m.state;
+        let fcb = before.last;
+        let last = last_in(clear, fresh, fcb);
+        let part = part_in(clear, fresh, before.part);
+        let state = State {
+            primary: before.primary,
+            access: (mark / ACCESS % 256) as u8,
             selected: mark % 2 == 1,
-            part: part,
-            last: last,
-            readouts: (mark / 256 % 256) as u8,
-            seed: m.seed,
-            hearing: mark / 4 % 2 == 1,
+            part,
+            last,
+            readouts: (mark / READOUTS % 256) as u8,
+            hearing: mark / HEARS % 2 == 1,
+            baud: before.baud,
         };
+        return Meter { built, state };
     }
     m
 }
@@ -204,9 +213,9 @@ fn record_of(e: u64) -> EntryRecord
     let digits = digits_of((e % 0x100000000) as u32);
     let count = count_of(front);
     EntryRecord {
-        kind: kind,
-        digits: digits,
-        count: count,
+        kind,
+        digits,
+        count,
     }
 }
 
@@ -214,8 +223,8 @@ pub(crate) fn blank_records() -> [EntryRecord; METERS] {
     let kind = Kind::Mute;
     let digits = [0u8; 8];
     let e = EntryRecord {
-        kind: kind,
-        digits: digits,
+        kind,
+        digits,
         count: 0,
     };
     [e; METERS]

@@ -1,2 +1,3 @@
+pub mod ProgramBits
 pub mod ProgramMarks
 pub mod ProgramPacked

@@ -1,35 +1,36 @@
--- What a mask and a reading do to the marks of packed meters. The words are the program's: that they do what sending them to the segment does is proved
+-- What a mask and a reading do to the marks of packed meters. The words are the program's: that they do what sending
+-- them to the segment does is proved
 -- (search, proofs/PackedProbe, `probe-packed`, and proofs/PackedRead, `read-packed`).
--- A mark's bits: 1 selected, 2 reset by a select, 4 hears the next telegram, 8 last FCB clear, 16 at bus baud and steady, 32 at bus baud and flaky,
--- 64 its reading always fails, 128 too_many; from 256 on the readouts, from 65536 on the access number.
 use mathlib.Core.Bool.{Bool, _&&_, _||_}
 use mathlib.Core.List.{List, [], _∷_}
 use Prim.Native.Nat.{ℕ, zero, suc, _+_, _-_, _*_, _/_, _%_}
 use lib.Dec.{ltb, eqb}
 use lib.Bits.{bitAnd, bitOr, bitXor}
 use Rattle.laws.specs.Words.{if_then_else_, bitIf, within}
+use Rattle.search_packed.specs.ProgramBits.{FRESH, HEARS, CLEAR, STEADY, FLAKY, FAILS, TOO-MANY, READOUTS, ACCESS}
 
 -- 1 where the meter with the mark s answers a telegram; put is 1 where the telegram is put to it
 unfoldable pub yesOf : ℕ → ℕ → ℕ
-yesOf s offered = bitAnd (bitOr (s / 16 % 2) (s / 4 % 2)) offered
+yesOf s offered = bitAnd (bitOr (s / STEADY % 2) (s / HEARS % 2)) offered
 
 -- whether it hears the next telegram: a flaky one to which this was put hears the other way
 unfoldable pub hearsOf : ℕ → ℕ → ℕ
-hearsOf s offered = bitXor (s / 4 % 2) (bitAnd (s / 32 % 2) offered)
+hearsOf s offered = bitXor (s / HEARS % 2) (bitAnd (s / FLAKY % 2) offered)
 
 -- a mark after a mask: selected exactly if the meter answers; a yes resets
 unfoldable pub marked : ℕ → ℕ → ℕ
-marked s offered = s / 16 * 16 + bitAnd (s / 8 % 2) (1 - yesOf s offered) % 2 * 8 + hearsOf s offered * 4 + bitOr (s / 2 % 2) (yesOf s offered) % 2 * 2 + yesOf s offered
+marked s offered =
+    s / STEADY * STEADY + bitAnd (s / CLEAR % 2) (1 - yesOf s offered) % 2 * CLEAR + hearsOf s offered * HEARS + bitOr (s / FRESH % 2) (yesOf s offered) % 2 * FRESH + yesOf s offered
 
 -- the readouts of a too_many meter are counted, up to 3
 unfoldable pub readoutsIn : ℕ → ℕ
-readoutsIn s = if eqb (s / 128 % 2) 0 then s / 256 % 256 else (if ltb (s / 256 % 256) 3 then s / 256 % 256 + 1 else 3)
+readoutsIn s = if eqb (s / TOO-MANY % 2) 0 then s / READOUTS % 256 else (if ltb (s / READOUTS % 256) 3 then s / READOUTS % 256 + 1 else 3)
 
 -- a mark after a reading, which is put to the selected
 unfoldable pub readMark : ℕ → ℕ
 readMark s =
-    if eqb (yesOf s (s % 2)) 0 then s / 8 * 8 + hearsOf s (s % 2) * 4 + s % 4
-    else s / 16 % 16 * 16 + 8 + hearsOf s (s % 2) * 4 + s % 4 + readoutsIn s % 256 * 256 + (s / 65536 + 1) % 256 * 65536
+    if eqb (yesOf s (s % 2)) 0 then s / CLEAR * CLEAR + hearsOf s (s % 2) * HEARS + s % HEARS
+    else s / STEADY % 16 * STEADY + CLEAR + hearsOf s (s % 2) * HEARS + s % HEARS + readoutsIn s % 256 * READOUTS + (s / ACCESS % 256 + 1) % 256 * ACCESS
 
 -- by key and mark: the mark after the mask low..high, and after a reading
 unfoldable pub masked : ℕ → ℕ → ℕ → ℕ → ℕ
@@ -44,7 +45,7 @@ acked low high n key s = n + masked low high key s % 2
 
 -- its reply is good
 unfoldable pub readable : ℕ → Bool
-readable s = eqb (s / 64 % 2) 0 && (eqb (s / 128 % 2) 0 || ltb (s / 256 % 256) 2)
+readable s = eqb (s / FAILS % 2) 0 && (eqb (s / TOO-MANY % 2) 0 || ltb (s / READOUTS % 256) 2)
 
 -- what was read so far, with what the next meter replies: a good reply's id behind a 1
 unfoldable pub readKey : ℕ → ℕ → ℕ → ℕ

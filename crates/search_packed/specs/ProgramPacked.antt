@@ -1,10 +1,12 @@
--- The walk over packed meters, in the steps of 01's walk (walk, specs/Walk.antt); a name's R stands for "over packed meters". That it finds what 01's walk finds is proved
+-- The walk over packed meters, in the steps of 01's walk (walk, specs/Walk.antt); a name's R stands for "over packed
+-- meters". That it finds what 01's walk finds is proved
 -- (search, proofs/PackedWalk).
--- An entry is one number: the id with the E5 counted in front of it (one: 1), or a mute's mask, F for unknown, with 0; in front is what is above 2^32.
+-- An entry is one number: the id with the E5 counted in front of it (one: 1), or a mute's mask, F for unknown, with
+-- 0; in front is what is above 2^32.
 use mathlib.Core.Path.{_≡_}
 use mathlib.Core.Bool.{Bool, true, false}
 use mathlib.Core.List.{List, [], _∷_, _++_}
-use Prim.Native.Nat.{ℕ, zero, suc, _+_, _-_, _*_}
+use Prim.Native.Nat.{ℕ, zero, suc, _+_, _-_, _*_, _≤_}
 use lib.Dec.{eqb, leb, ltb}
 use lib.ListN.{length, take}
 use Rattle.laws.specs.Words.{if_then_else_}
@@ -25,8 +27,9 @@ pub record PackedRun : Type 0 where
 unfoldable pub viewOf : Walk → List ℕ → List ℕ → PackedRun
 viewOf w ss es = record { entries = take (w .found) es; probes = w .probes; spent = w .spent; marks = ss }
 
--- lent arrays of keys, marks and entries have all their places
-pub record Whole (ks ss es : List ℕ) : Type 0 where
+-- lent arrays of keys, marks and entries have all their places, and no more entries are found than have a place
+pub record Whole (found : ℕ) (ks ss es : List ℕ) : Type 0 where
+  pub fits : found ≤ capacity
   pub keys : length ks ≡ capacity
   pub marks : length ss ≡ capacity
   pub entries : length es ≡ capacity
@@ -41,6 +44,7 @@ pub record Noted (w : Walk) (es : List ℕ) (e : ℕ) (r : Walk) (fs : List ℕ)
   pub probes : r .probes ≡ w .probes
   pub spent : r .spent ≡ w .spent
   pub room : length fs ≡ capacity
+  pub fits : r .found ≤ capacity
 
 -- stopped before the next probe
 abbrev pub packedStop : PackedRun → PackedRun
@@ -106,8 +110,9 @@ packedWhole ks ss allowance = packedWalk ks allowance 8 0 (record { entries = []
 unfoldable pub foundOf : Found → PackedRun
 foundOf r = record { entries = take (r .found) (r .entries); probes = r .probes; spent = r .spent; marks = r .marks }
 
--- the program's walk from the mask with no digit; its arrays have all their places
+-- the program's walk from the mask with no digit; it found as many as that walk, and its arrays have all their places
 pub record Goes (ks ss : List ℕ) (allowance : ℕ) (r : Found) : Type 0 where
   pub run : foundOf r ≡ packedWhole ks ss allowance
+  pub found : r .found ≡ length ((packedWhole ks ss allowance) .entries)
   pub entries : length (r .entries) ≡ capacity
   pub marks : length (r .marks) ≡ capacity

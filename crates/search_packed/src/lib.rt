@@ -5,6 +5,7 @@ ghost use Rattle.list_open.specs.Opening.{capacity};
 ghost use Rattle.search_packed.specs.ProgramPacked.{Goes};
 use list_open::METERS;
 
+pub mod bits; // bits.rt: the places of a mark
 mod marks;
 mod walk;
 
@@ -44,9 +45,10 @@ pub fn walk_all(keys: [u32; METERS], marks: [u32; METERS], allowance: u32) -> Fo
         &mut left,
         &mut entries,
     );
+    let found = w.found;
     Found {
-        entries: entries,
-        found: w.found,
+        entries,
+        found,
         probes: w.probes,
         spent: w.spent,
         marks: left,

@@ -1,12 +1,20 @@
-// A meter as a search packs it, in two numbers: its key, the id whose nibbles are the digits, and its mark, all that a mask or a reading can change.
-// The bits of a mark, from the lowest: selected; reset by a select; hears the next telegram; last FCB clear; at bus baud, steady; at bus baud, flaky;
-// its reading always fails; too_many. From 256 on the readouts, from 65536 on the access number. A meter at another baud has mark 0.
+// A meter as a search packs it, in two numbers: its key, the id whose nibbles are the digits, and its mark, all that
+// a mask or a reading can change (bits.rt).
 ghost use mathlib.Core.Path.{_≡_};
 ghost use Prim.Native.Nat.{ℕ, _≤_};
 ghost use lib.ListN.{length};
 ghost use Rattle.laws.specs.Words.{within};
 ghost use Rattle.list_open.specs.Opening.{capacity};
 ghost use Rattle.search_packed.specs.ProgramMarks.{yesOf, hearsOf, marked, masked, acked, readoutsIn, readMark, readKey, readBy, sweptBy, foldBy};
+use crate::bits::ACCESS;
+use crate::bits::CLEAR;
+use crate::bits::FAILS;
+use crate::bits::FLAKY;
+use crate::bits::FRESH;
+use crate::bits::HEARS;
+use crate::bits::READOUTS;
+use crate::bits::STEADY;
+use crate::bits::TOO_MANY;
 use laws::bit;
 use list_open::METERS;
 
@@ -15,7 +23,7 @@ fn yes_of(mark: u32, offered: u32) -> u32
     requires { ⌜ offered ≤ 1 ⌝ }
     ensures { λ r. ⌜ (r ≡ yesOf mark offered) × (r ≤ 1) ⌝ }
 {
-    (mark / 16 % 2 | mark / 4 % 2) & offered
+    (mark / STEADY % 2 | mark / HEARS % 2) & offered
 }
 
 // 1 where the meter hears the next telegram: a flaky one hears every second.
@@ -23,7 +31,7 @@ fn hears_of(mark: u32, offered: u32) -> u32
     requires { ⌜ offered ≤ 1 ⌝ }
     ensures { λ r. ⌜ (r ≡ hearsOf mark offered) × (r ≤ 1) ⌝ }
 {
-    mark / 4 % 2 ^ (mark / 32 % 2 & offered)
+    mark / HEARS % 2 ^ (mark / FLAKY % 2 & offered)
 }
 
 // A mark after a mask: selected exactly if the meter answers, and reset where it does.
@@ -33,9 +41,9 @@ fn mask_mark(mark: u32, offered: u32) -> u32
 {
     let yes = yes_of(mark, offered);
     let hears = hears_of(mark, offered);
-    let fresh = mark / 2 % 2 | yes;
-    let clear = mark / 8 % 2 & (1 - yes);
-    mark / 16 * 16 + clear % 2 * 8 + hears * 4 + fresh % 2 * 2 + yes
+    let fresh = mark / FRESH % 2 | yes;
+    let clear = mark / CLEAR % 2 & (1 - yes);
+    mark / STEADY * STEADY + clear % 2 * CLEAR + hears * HEARS + fresh % 2 * FRESH + yes
 }
 
 // Both ends are within. One comparison: below the lower end the difference wraps to more than the upper end allows.
@@ -70,8 +78,8 @@ pub(crate) fn send_mask(keys: &[u32; METERS], marks: &mut [u32; METERS], low: u3
 fn readouts(mark: u32) -> u32
     ensures { λ r. ⌜ r ≡ readoutsIn mark ⌝ }
 {
-    let n = mark / 256 % 256;
-    if mark / 128 % 2 == 0 {
+    let n = mark / READOUTS % 256;
+    if mark / TOO_MANY % 2 == 0 {
         return n;
     }
     if n < 3 { n + 1 } else { 3 }
@@ -85,10 +93,15 @@ fn read_mark(mark: u32) -> u32
     let yes = yes_of(mark, offered);
     let hears = hears_of(mark, offered);
     if yes == 0 {
-        return mark / 8 * 8 + hears * 4 + mark % 4;
+        return mark / CLEAR * CLEAR + hears * HEARS + mark % HEARS;
     }
-    let access = (mark / 65536 + 1) % 256;
-    mark / 16 % 16 * 16 + 8 + hears * 4 + mark % 4 + readouts(mark) % 256 * 256 + access * 65536
+    let access = std::num::wrapping_add_u8((mark / ACCESS % 256) as u8, 1);
+    mark / STEADY % 16 * STEADY
+        + CLEAR
+        + hears * HEARS
+        + mark % HEARS
+        + readouts(mark) % 256 * READOUTS
+        + access as u32 * ACCESS
 }
 
 // The id that a reading brings, behind a 1; a meter whose reply is not good leaves what was there.
@@ -97,11 +110,11 @@ fn read_key(id: u64, key: u32, mark: u32) -> u64
 {
     let yes = yes_of(mark, mark % 2);
     if yes == 1 {
-        if mark / 64 % 2 == 0 {
-            if mark / 128 % 2 == 0 {
+        if mark / FAILS % 2 == 0 {
+            if mark / TOO_MANY % 2 == 0 {
                 return 0x100000000 + key as u64;
             }
-            if mark / 256 % 256 < 2 {
+            if mark / READOUTS % 256 < 2 {
                 return 0x100000000 + key as u64;
             }
         }

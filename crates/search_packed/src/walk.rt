@@ -1,5 +1,6 @@
 // The walk over packed meters: probe and row call each other, and the digits still unknown fall.
-// A mask with so many digits unknown is the ids from low to low + span, span = 16^unknown - 1. What a walk changes is lent.
+// A mask with so many digits unknown is the ids from low to low + span, span = 16^unknown - 1. What a walk changes is
+// lent.
 // An entry is one number: the id with the E5 counted in front of it (one: 1), or a mute's mask, F for unknown, with 0.
 ghost use mathlib.Core.Path.{_≡_};
 ghost use Prim.Native.Nat.{ℕ, _+_, _*_, _<_, _≤_};
@@ -23,9 +24,10 @@ pub struct Probed {
     pub many: u32,
 }
 
-// One entry more. There is always room for it: entries are never more than meters (walk, proofs/Fits.antt, `walk-fits-meters`).
+// One entry more. There is always room for it: entries are never more than meters (walk, proofs/Fits.antt,
+// `walk-fits-meters`).
 fn with_entry(w: Walk, e: u64, entries: &mut [u64; METERS]) -> Walk
-    requires { ⌜ length (now entries) ≡ capacity ⌝ }
+    requires { ⌜ (length (now entries) ≡ capacity) × (w .found ≤ capacity) ⌝ }
     ensures { λ r. ⌜ Noted w (now (entries .entry)) e r (now (entries .exit)) ⌝ }
 {
     let at = w.found;
@@ -51,16 +53,16 @@ fn probe_and_read(
     marks: &mut [u32; METERS],
     entries: &mut [u64; METERS],
 ) -> Probed
-    requires { ⌜ Whole (now keys) (now marks) (now entries) × (low ≤ high) ⌝ }
+    requires { ⌜ Whole (w .found) (now keys) (now marks) (now entries) × (low ≤ high) ⌝ }
     ensures { λ r. ⌜ (onceOf r (now (marks .exit)) (now (entries .exit)) ≡ packedOnce (now (keys .entry)) allowance low high (viewOf w (now (marks .entry)) (now (entries .entry))))
-        × Whole (now (keys .entry)) (now (marks .exit)) (now (entries .exit)) × (r .many ≤ capacity) ⌝ }
+        × Whole (r .walk .found) (now (keys .entry)) (now (marks .exit)) (now (entries .exit)) × (r .many ≤ capacity) ⌝ }
 {
     let probes = w.probes;
     if allowance <= probes {
         return Probed {
             walk: Walk {
                 found: w.found,
-                probes: probes,
+                probes,
                 spent: true,
             },
             many: 0,
@@ -94,9 +96,9 @@ pub(crate) fn probe(
     marks: &mut [u32; METERS],
     entries: &mut [u64; METERS],
 ) -> Walk
-    requires { ⌜ Whole (now keys) (now marks) (now entries) × (span ≡ spanOf unknown) × (low + span < 0x100000000) ⌝ }
+    requires { ⌜ Whole (w .found) (now keys) (now marks) (now entries) × (span ≡ spanOf unknown) × (low + span < 0x100000000) ⌝ }
     ensures { λ r. ⌜ (viewOf r (now (marks .exit)) (now (entries .exit)) ≡ packedWalk (now (keys .entry)) allowance unknown low (viewOf w (now (marks .entry)) (now (entries .entry))))
-        × Whole (now (keys .entry)) (now (marks .exit)) (now (entries .exit)) ⌝ }
+        × Whole (r .found) (now (keys .entry)) (now (marks .exit)) (now (entries .exit)) ⌝ }
 {
     let probed = probe_and_read(w, allowance, low, low + span, keys, marks, entries);
     let many = probed.many;
@@ -130,9 +132,9 @@ fn row(
     marks: &mut [u32; METERS],
     entries: &mut [u64; METERS],
 ) -> Walk
-    requires { ⌜ Whole (now keys) (now marks) (now entries) × (span ≡ spanOf below) × (low + 16 * span + 15 < 0x100000000) ⌝ }
+    requires { ⌜ Whole (w .found) (now keys) (now marks) (now entries) × (span ≡ spanOf below) × (low + 16 * span + 15 < 0x100000000) ⌝ }
     ensures { λ r. ⌜ (viewOf r (now (marks .exit)) (now (entries .exit)) ≡ packedRow (packedWalk (now (keys .entry)) allowance below) (span + 1) 10 low (viewOf w (now (marks .entry)) (now (entries .entry))))
-        × Whole (now (keys .entry)) (now (marks .exit)) (now (entries .exit)) ⌝ }
+        × Whole (r .found) (now (keys .entry)) (now (marks .exit)) (now (entries .exit)) ⌝ }
 {
     let mut q = w;
     let mut l = low;

@@ -152,7 +152,8 @@ module _ (S : Type 0) (probe : List ℕ → S → ℕ × S) (read : List ℕ →
       let r = walk-same u (p ++ d ∷ []) (prefix-longer p d w (omega arith) l) (omega (arith, length-append p (d ∷ []))) c t i in (r .0 ∙ walk-cong u (seen t) (seen s) (p ++ d ∷ []) fresh c, r .1, r .2))
       0 10 b ((probe p s) .1) (omega arith) (probe-inv p w s inv) (probe-agree p w s inv) (λ d q h. ap (λ v. having v (p ++ d ∷ [] ++ q)) (probe-seen p w s inv)))) a)
 
--- ---- the entries fit into as many places as there are meters: in every case, also where fewer answer than have the prefix
+-- ---- the entries fit into as many places as there are meters: in every case, also where fewer answer than have the
+-- prefix
 
 module _ (S : Type 0) (probe : List ℕ → S → ℕ × S) (read : List ℕ → S → Entry × S) (Inv : S → Type 0) (ms : List PlainMeter)
     (probe-inv : (p : List ℕ) → Prefix p → (s : S) → Inv s → Inv ((probe p s) .1)) (read-inv : (p : List ℕ) → Prefix p → (s : S) → Inv s → Inv ((read p s) .1))

@@ -1,4 +1,5 @@
--- Flaky meters or not, whatever the digits of their ids: no telegram of a search is refused, entries are never more than meters,
+-- Flaky meters or not, whatever the digits of their ids: no telegram of a search is refused, entries are never more
+-- than meters,
 -- and the walk leaves the segment at rest with the same ids.
 use mathlib.Core.Path.{_≡_, refl, sym, ap, _∙_, subst}
 use mathlib.Core.Bool.{true, _&&_}

@@ -1,5 +1,6 @@
 -- The walk in the shape of a program: the entries so far are in whatever holds them.
--- Where what holds them has no room any more, it keeps what it has: entries are never more than meters, so this never shows.
+-- Where what holds them has no room any more, it keeps what it has: entries are never more than meters, so this never
+-- shows.
 use mathlib.Core.Path.{_≡_, refl, sym, ap, _∙_}
 use mathlib.Core.Bool.{Bool, true, false}
 use mathlib.Core.List.{List, [], _∷_, _++_, map}

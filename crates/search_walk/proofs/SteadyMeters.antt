@@ -1,4 +1,5 @@
--- A probe and a reading of a segment at rest where no meter at bus baud is flaky: who answers, what is read, and what of the meters stays.
+-- A probe and a reading of a segment at rest where no meter at bus baud is flaky: who answers, what is read, and what
+-- of the meters stays.
 use mathlib.Core.Path.{_≡_, refl, sym, ap, ap₂, _∙_, subst}
 use mathlib.Core.Bool.{Bool, true, false, _&&_, not, false≢true, and-true}
 use mathlib.Core.List.{List, [], _∷_, map, nil≢cons, cons≢nil, head-eq-of-cons-eq, tail-eq-of-cons-eq}

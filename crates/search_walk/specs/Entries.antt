@@ -82,8 +82,10 @@ parentShared ms (d ∷ p) = shared ms (dropLast (d ∷ p))
 abbrev pub loneEntry : List ℕ → PlainMeter → Entry
 loneEntry p m = if readingFails m then mute p else one (m .digits)
 
--- The entry for the prefix p, if any, by the meters that have it; `up`: the parent prefix has several; `eight`: p has eight digits.
--- "one with the id, for a prefix that a single meter at bus baud has while its parent prefix (if any) has several"; "many with id and count for eight digits that several have"
+-- The entry for the prefix p, if any, by the meters that have it; `up`: the parent prefix has several; `eight`: p has
+-- eight digits.
+-- "one with the id, for a prefix that a single meter at bus baud has while its parent prefix (if any) has several";
+-- "many with id and count for eight digits that several have"
 abbrev pub entryBy : List ℕ → List PlainMeter → Bool → Bool → List Entry
 entryBy p [] up eight = []
 entryBy p (m ∷ []) up eight = if up then loneEntry p m ∷ [] else []

@@ -6,8 +6,9 @@ use Prim.Native.Nat.{ℕ, zero, suc, _+_, _-_}
 use lib.Dec.{eqb, leb}
 use lib.ListN.{length, replicate}
 use Rattle.laws.specs.Words.{if_then_else_, keep}
+use Rattle.frame.specs.Protocol.{ackByte, addrSelected, ciSelect, ciVariable, ciFixed}
 use Rattle.frame.specs.Frame.{Telegram, ack, short, long, complete, incomplete, invalid, parse, encode}
-use Rattle.frame_master.specs.Master.{sndUd, reqUd2, isRspUd}
+use Rattle.frame.specs.Master.{sndUd, reqUd2, isRspUd}
 use Rattle.meter_identity.specs.Identity.{idBytes, nibbles}
 use Rattle.time_clock.specs.declared.Clock.{Clock}
 use Rattle.meter_select.specs.Matching.{alike}
@@ -20,16 +21,19 @@ use Rattle.segment_send.specs.Send.{send}
 unfoldable pub maskDigits : List ℕ → List ℕ
 maskDigits p = p ++ replicate (8 - length p) 0xF
 
--- "A probe is SND_UD (53) to FD, CI 52, eight data bytes: the mask's digits as in the id's little-endian bytes, .., then FF FF FF FF."
+-- "A probe is SND_UD (53) to FD, CI 52, eight data bytes: the mask's digits as in the id's little-endian bytes, ..,
+-- then FF FF FF FF."
 unfoldable pub mask : List ℕ → Telegram
-mask p = sndUd 0xFD 0x52 (idBytes (maskDigits p) ++ 0xFF ∷ 0xFF ∷ 0xFF ∷ 0xFF ∷ [])
+mask p = sndUd addrSelected ciSelect (idBytes (maskDigits p) ++ 0xFF ∷ 0xFF ∷ 0xFF ∷ 0xFF ∷ [])
 
 -- "REQ_UD2 5B to FD"
 unfoldable pub reading : Telegram
-reading = reqUd2 0xFD false
+reading = reqUd2 addrSelected false
 
--- "masks and readings go through send at its clock, replies come from the queue"; "it takes every reply whole, so that none stays queued".
--- Send's number is not looked at: no telegram of a search is refused (proofs/Fits.antt, `mask-accepted` and `reading-accepted`).
+-- "masks and readings go through send at its clock, replies come from the queue"; "it takes every reply whole, so
+-- that none stays queued".
+-- Send's number is not looked at: no telegram of a search is refused (proofs/Fits.antt, `mask-accepted` and
+-- `reading-accepted`).
 unfoldable pub ask : Clock → Telegram → Plain → List ℕ × Plain
 ask k t s = let r = send (encode t) k s in (r .segment .queue, withQueue [] (r .segment))
 
@@ -37,7 +41,7 @@ ask k t s = let r = send (encode t) k s in (r .segment .queue, withQueue [] (r .
 
 -- "It sends a mask and counts the E5"
 unfoldable pub probe : Clock → List ℕ → Plain → ℕ × Plain
-probe k p s = let r = ask k (mask p) s in (length (keep (λ b. eqb b 0xE5) (r .0)), r .1)
+probe k p s = let r = ask k (mask p) s in (length (keep (λ b. eqb b ackByte) (r .0)), r .1)
 
 -- "one with the id", "mute with that mask instead", "many with id and count"; a mute holds the prefix of its mask
 pub data Entry : Type 0 where
@@ -49,7 +53,7 @@ pub data Entry : Type 0 where
 unfoldable pub good : List ℕ → Telegram → Bool
 good p ack = false
 good p (short c a) = false
-good p (long c a ci d) = isRspUd (long c a ci d) && (eqb ci 0x72 || eqb ci 0x73) && leb 4 (length d) && alike (maskDigits p) (nibbles d)
+good p (long c a ci d) = isRspUd (long c a ci d) && (eqb ci ciVariable || eqb ci ciFixed) && leb 4 (length d) && alike (maskDigits p) (nibbles d)
 
 -- "its first four data bytes ..; they are then the entry's id": as eight digits
 unfoldable pub idOf : Telegram → List ℕ
@@ -72,14 +76,16 @@ read k p s = let r = ask k reading s in (entryOf p (r .0), r .1)
 
 -- ---- the walk
 
--- where a walk stands: the entries so far, the probes made (masks sent, readings not counted), spent or not, the segment
+-- where a walk stands: the entries so far, the probes made (masks sent, readings not counted), spent or not, the
+-- segment
 pub record Walked : Type 0 where
   pub entries : List Entry
   pub probes : ℕ
   pub spent : Bool
   pub segment : Plain
 
--- "stopped before the next probe, and returns the entries so far": nothing else changes, so that a walk that was stopped is stopped again before each further probe
+-- "stopped before the next probe, and returns the entries so far": nothing else changes, so that a walk that was
+-- stopped is stopped again before each further probe
 abbrev pub stopped : Walked → Walked
 stopped w = record { entries = w .entries; probes = w .probes; spent = true; segment = w .segment }
 

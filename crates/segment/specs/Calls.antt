@@ -5,6 +5,7 @@ use Prim.Native.Nat.{ℕ, min}
 use lib.Ieee.{Float}
 use lib.ListN.{length, take, drop}
 use Rattle.laws.specs.Words.{if_then_else_}
+use Rattle.laws.specs.Refusal.{notRefused, refusedBaud}
 use Rattle.meter.specs.Meter.{rates}
 use Rattle.list_check.specs.Tables.{isRate}
 use Rattle.list_open.specs.Opening.{opens, refuses, refusesRecord, openList}
@@ -12,7 +13,8 @@ use Rattle.segment.specs.Plain.{Plain, withQueue}
 
 -- ---- opening
 
--- "An accepted opening builds it anew"; "a later accepted one replaces the segment, a later refused one leaves the former in use"
+-- "An accepted opening builds it anew"; "a later accepted one replaces the segment, a later refused one leaves the
+-- former in use"
 unfoldable pub afterOpening : List ℕ → ℕ → Bool → Float → Plain → Plain
 afterOpening list bus practice origin former =
     elim (openList list bus practice) [
@@ -28,7 +30,7 @@ pub record Done : Type 0 where
   pub segment : Plain
 
 abbrev pub accepted : Plain → Done
-accepted s = record { number = 0; segment = s }
+accepted s = record { number = notRefused; segment = s }
 
 -- "a refused one changes nothing"
 abbrev pub refused : ℕ → Plain → Done
@@ -55,4 +57,4 @@ clear s = withQueue [] s
 unfoldable pub changeBaud : ℕ → Plain → Done
 changeBaud b s =
     if isRate rates b then accepted (record { baud = b; origin = s .origin; input = []; queue = s .queue; meters = s .meters })
-    else refused 10 s
+    else refused refusedBaud s

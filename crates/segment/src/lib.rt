@@ -43,13 +43,13 @@ impl Segment {
         let input = blank_input();
         let queue = blank_queue();
         Segment {
-            meters: meters,
-            count: count,
-            baud: baud,
-            origin: origin,
-            input: input,
+            meters,
+            count,
+            baud,
+            origin,
+            input,
             waiting: 0,
-            queue: queue,
+            queue,
             queued: 0,
         }
     }

@@ -5,6 +5,7 @@ ghost use Rattle.segment.specs.Calls;
 ghost use Rattle.segment_image.specs.Image.{decodeImage};
 ghost use Rattle.segment_image.specs.Answers.{DoneImage, LeftImage, OpenedImage, ReceivedImage};
 ghost use Rattle.segment_calls.specs.View.{changingNumber};
+use laws::refused;
 use list_check::refusal::Refusal;
 use segment::Segment;
 use segment_image::IMAGE;
@@ -56,8 +57,8 @@ pub fn changing_number(answer: Changing) -> u32
     ensures { λ r. ⌜ r ≡ changingNumber answer ⌝ }
 {
     match answer {
-        Changing::Accepted => 0,
-        Changing::NoRate => 10,
+        Changing::Accepted => refused::NOT_REFUSED,
+        Changing::NoRate => refused::BAUD,
     }
 }
 

@@ -7,10 +7,10 @@ use lib.ListN.{length}
 use borrow.Author.Tests.{lt-ltb, le-ltb}
 use Rattle.laws.specs.Words.{bitIf, at}
 use Rattle.numbers.specs.Values.{little}
-use Rattle.meter_identity.specs.Identity.{idBytes}
+use Rattle.meter_identity.specs.Identity.{digitsOf, idBytes}
 use Rattle.meter_identity.proofs.IdentityLaws.{id-little}
 use Rattle.meter.specs.PlainMeter.{PlainMeter}
-use Rattle.meter.specs.View.{plainMeter}
+use Rattle.meter.specs.View.{blankMeter, plainMeter}
 use Rattle.meter.specs.declared.Meter.{Meter}
 use Rattle.meter.specs.declared.Fault.{Fault}
 use Rattle.meter.specs.declared.Fault.the-variants.{None, Checksum, Truncated, Busy, WrongAddress, Flaky, TooMany}
@@ -22,11 +22,16 @@ use Rattle.segment_image.specs.MeterBytes.{flagBy, modelBy, faultBy, las
 use Rattle.numbers.specs.Number.{number}
 
 -- a meter, if each part says so
-pub meter-is : (bs : List ℕ) (m : Meter) → at bs 0 ≡ m .primary → number 4 1 bs ≡ m .id → number 2 5 bs ≡ m .manufacturer → at bs 7 ≡ m .version → at bs 8 ≡ m .medium
-    → modelBy (at bs 9) ≡ m .model → faultBy (at bs 10) ≡ m .fault → at bs 11 ≡ m .access → number 4 12 bs ≡ m .baud → flagBy (at bs 16) ≡ m .selected → at bs 17 ≡ m .part
-    → lastBy (at bs 18) ≡ m .last → at bs 19 ≡ m .readouts → number 4 20 bs ≡ m .seed → flagBy (at bs 24) ≡ m .hearing → decodeMeter bs ≡ plainMeter m
+pub meter-is : (bs : List ℕ) (m : Meter) → at bs 0 ≡ m .state .primary → number 4 1 bs ≡ m .built .id → number 2 5 bs ≡ m .built .manufacturer → at bs 7 ≡ m .built .version → at bs 8 ≡ m .built .medium
+    → modelBy (at bs 9) ≡ m .built .model → faultBy (at bs 10) ≡ m .built .fault → at bs 11 ≡ m .state .access → number 4 12 bs ≡ m .state .baud → flagBy (at bs 16) ≡ m .state .selected → at bs 17 ≡ m .state .part
+    → lastBy (at bs 18) ≡ m .state .last → at bs 19 ≡ m .state .readouts → number 4 20 bs ≡ m .built .seed → flagBy (at bs 24) ≡ m .state .hearing → decodeMeter bs ≡ plainMeter m
 unfolding decodeMeter
 meter-is bs m e₁ e₂ e₃ e₄ e₅ e₆ e₇ e₈ e₉ f₁ f₂ f₃ f₄ f₅ f₆ = rw (e₁, e₂, e₃, e₄, e₅, e₆, e₇, e₈, e₉, f₁, f₂, f₃, f₄, f₅, f₆)
+
+-- no bytes mean a blank meter
+pub blank-is : plainMeter blankMeter ≡ decodeMeter []
+unfolding blankMeter digitsOf decodeMeter number
+blank-is = refl
 
 -- the bytes that a meter is read from
 pub few : (bs : List ℕ) → length bs < 25 → wholeMeter bs ≡ []
@@ -63,15 +68,15 @@ last-back Set = refl
 -- the bytes of a meter, by those of its numbers and by its marks
 abbrev row : Meter → List ℕ → List ℕ → List ℕ → List ℕ → ℕ → ℕ → ℕ → ℕ → ℕ → List ℕ
 row m id manufacturer baud seed model fault selected last hearing =
-    m .primary ∷ at id 0 ∷ at id 1 ∷ at id 2 ∷ at id 3 ∷ at manufacturer 0 ∷ at manufacturer 1 ∷ m .version ∷ m .medium ∷ model ∷ fault ∷ m .access ∷ at baud 0 ∷ at baud 1 ∷ at baud 2 ∷ at baud 3
-    ∷ selected ∷ m .part ∷ last ∷ m .readouts ∷ at seed 0 ∷ at seed 1 ∷ at seed 2 ∷ at seed 3 ∷ hearing ∷ []
+    m .state .primary ∷ at id 0 ∷ at id 1 ∷ at id 2 ∷ at id 3 ∷ at manufacturer 0 ∷ at manufacturer 1 ∷ m .built .version ∷ m .built .medium ∷ model ∷ fault ∷ m .state .access ∷ at baud 0 ∷ at baud 1 ∷ at baud 2 ∷ at baud 3
+    ∷ selected ∷ m .state .part ∷ last ∷ m .state .readouts ∷ at seed 0 ∷ at seed 1 ∷ at seed 2 ∷ at seed 3 ∷ hearing ∷ []
 
 pub bytes-are : (m : Meter) (id manufacturer baud seed : List ℕ) (model fault selected last hearing : ℕ)
-    → id ≡ little 4 (m .id) → manufacturer ≡ little 2 (m .manufacturer) → baud ≡ little 4 (m .baud) → seed ≡ little 4 (m .seed)
-    → model ≡ modelByte (m .model) → fault ≡ faultByte (m .fault) → selected ≡ bitIf (m .selected) → last ≡ lastByte (m .last) → hearing ≡ bitIf (m .hearing)
+    → id ≡ little 4 (m .built .id) → manufacturer ≡ little 2 (m .built .manufacturer) → baud ≡ little 4 (m .state .baud) → seed ≡ little 4 (m .built .seed)
+    → model ≡ modelByte (m .built .model) → fault ≡ faultByte (m .built .fault) → selected ≡ bitIf (m .state .selected) → last ≡ lastByte (m .state .last) → hearing ≡ bitIf (m .state .hearing)
     → row m id manufacturer baud seed model fault selected last hearing ≡ encodeMeter (plainMeter m)
 unfolding encodeMeter little
-bytes-are m id manufacturer baud seed model fault selected last hearing e₁ e₂ e₃ e₄ e₅ e₆ e₇ e₈ e₉ = rw (e₁, e₂, e₃, e₄, e₅, e₆, e₇, e₈, e₉, id-little (m .id))
+bytes-are m id manufacturer baud seed model fault selected last hearing e₁ e₂ e₃ e₄ e₅ e₆ e₇ e₈ e₉ = rw (e₁, e₂, e₃, e₄, e₅, e₆, e₇, e₈, e₉, id-little (m .built .id))
 
 pub meter-long : (m : PlainMeter) → length (encodeMeter m) ≡ 25
 unfolding encodeMeter little idBytes

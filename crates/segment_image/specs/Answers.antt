@@ -1,4 +1,5 @@
--- What a call on an image answers and leaves. An image that is the one image of its segment before a call is so after it.
+-- What a call on an image answers and leaves. An image that is the one image of its segment before a call is so after
+-- it.
 use mathlib.Core.Path.{_≡_}
 use mathlib.Core.Bool.{Bool}
 use mathlib.Core.List.{List}
@@ -13,7 +14,8 @@ use Rattle.segment_image.specs.Image.{decodeImage, encodeImage, Exact}
 unfoldable pub doneBy : ℕ → List ℕ → calls.Done
 doneBy n image = record { number = n; segment = decodeImage image }
 
--- the answer is the number of `want`, and the image means its segment; where the number is not 0, every byte of it stays
+-- the answer is the number of `want`, and the image means its segment; where the number is not 0, every byte of it
+-- stays
 pub record DoneImage (want : calls.Done) (number : ℕ) (before after : List ℕ) : Type 0 where
   pub answer : doneBy number after ≡ want
   pub exact : Exact before → Exact after

@@ -38,11 +38,7 @@ pub(crate) fn copy(from: &[u8], start: usize, n: usize, to: &mut [u8], p: usize)
     requires { ⌜ (start + n ≤ length (now from)) × (p + n ≤ length (now to)) ⌝ }
     ensures { λ _. ⌜ now (to .exit) ≡ paste (now (to .entry)) p (drop start (now (from .entry))) n ⌝ }
 {
-    let mut j: usize = 0;
-    while j < n {
-        to[p + j] = from[start + j];
-        j += 1;
-    }
+    bytes::copy(&from[start..start + n], &mut to[p..]);
 }
 
 // Every byte becomes 0.

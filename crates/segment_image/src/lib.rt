@@ -23,7 +23,8 @@ pub mod meters; // meters.rt: a meter as 25 bytes
 mod written; // written.rt: numbers as bytes
 mod copying; // copying.rt: the eight bytes of an f64's pattern, and blocks of bytes
 
-// Where the parts lie: how many meters there are, how many bytes wait and how many are queued, two bytes each; the input; the queue; the meters, and how
+// Where the parts lie: how many meters there are, how many bytes wait and how many are queued, two bytes each; the
+// input; the queue; the meters, and how
 // many bytes each has.
 pub const COUNT_AT: usize = 12;
 

@@ -1,14 +1,16 @@
 // A meter as 25 bytes.
 ghost use mathlib.Core.Path.{_≡_};
-ghost use mathlib.Core.List.{[]};
 ghost use Rattle.laws.specs.Words.{bitIf};
 ghost use Rattle.meter.specs.View.{plainMeter};
 ghost use Rattle.segment_image.specs.MeterBytes.{flagBy, modelBy, faultBy, lastBy, wholeMeter, decodeMeter, modelByte, faultByte, lastByte, encodeMeter};
 use crate::written;
+use meter::Built;
 use meter::Fault;
 use meter::LastFcb;
 use meter::Meter;
 use meter::Model;
+use meter::State;
+use meter::blank_meter;
 
 fn flag(b: u8) -> bool
     ensures { λ r. ⌜ r ≡ flagBy b ⌝ }
@@ -92,51 +94,35 @@ fn last_byte(l: LastFcb) -> u8
     }
 }
 
-fn no_meter() -> Meter
-    ensures { λ r. ⌜ plainMeter r ≡ decodeMeter [] ⌝ }
-{
-    Meter {
-        primary: 0,
-        id: 0,
-        manufacturer: 0,
-        version: 0,
-        medium: 0,
-        model: Model::Heat,
-        fault: Fault::None,
-        access: 0,
-        baud: 0,
-        selected: false,
-        part: 0,
-        last: LastFcb::Never,
-        readouts: 0,
-        seed: 0,
-        hearing: false,
-    }
-}
-
 // Fewer than 25 bytes count as none.
 pub fn read_meter(bs: &[u8]) -> Meter
     ensures { λ r. ⌜ plainMeter r ≡ decodeMeter (wholeMeter (now (bs .entry))) ⌝ }
 {
     if bs.len() < 25 {
-        return no_meter();
+        return blank_meter();
     }
-    Meter {
-        primary: bs[0],
+    let built = Built {
         id: numbers::four(bs[1], bs[2], bs[3], bs[4]),
         manufacturer: numbers::two(bs[5], bs[6]),
         version: bs[7],
         medium: bs[8],
         model: model(bs[9]),
         fault: fault(bs[10]),
+        seed: numbers::four(bs[20], bs[21], bs[22], bs[23]),
+    };
+    let state = State {
+        primary: bs[0],
         access: bs[11],
-        baud: numbers::four(bs[12], bs[13], bs[14], bs[15]),
         selected: flag(bs[16]),
         part: bs[17],
         last: last(bs[18]),
         readouts: bs[19],
-        seed: numbers::four(bs[20], bs[21], bs[22], bs[23]),
         hearing: flag(bs[24]),
+        baud: numbers::four(bs[12], bs[13], bs[14], bs[15]),
+    };
+    Meter {
+        built: built,
+        state: state,
     }
 }
 
@@ -144,38 +130,40 @@ pub fn read_meter(bs: &[u8]) -> Meter
 pub fn meter_bytes(m: Meter) -> [u8; 25]
     ensures { λ r. ⌜ (r ≡ encodeMeter (plainMeter m)) × (decodeMeter r ≡ plainMeter m) ⌝ }
 {
-    let id = written::four_bytes(m.id);
-    let manufacturer = written::two_bytes(m.manufacturer);
-    let baud = written::four_bytes(m.baud);
-    let seed = written::four_bytes(m.seed);
-    let model = m.model;
-    let fault = m.fault;
-    let last = m.last;
+    let built = m.built;
+    let state = m.state;
+    let id = written::four_bytes(built.id);
+    let manufacturer = written::two_bytes(built.manufacturer);
+    let baud = written::four_bytes(state.baud);
+    let seed = written::four_bytes(built.seed);
+    let model = built.model;
+    let fault = built.fault;
+    let last = state.last;
     [
-        m.primary,
+        state.primary,
         id[0],
         id[1],
         id[2],
         id[3],
         manufacturer[0],
         manufacturer[1],
-        m.version,
-        m.medium,
+        built.version,
+        built.medium,
         model_byte(model),
         fault_byte(fault),
-        m.access,
+        state.access,
         baud[0],
         baud[1],
         baud[2],
         baud[3],
-        flag_byte(m.selected),
-        m.part,
+        flag_byte(state.selected),
+        state.part,
         last_byte(last),
-        m.readouts,
+        state.readouts,
         seed[0],
         seed[1],
         seed[2],
         seed[3],
-        flag_byte(m.hearing),
+        flag_byte(state.hearing),
     ]
 }

@@ -1,4 +1,5 @@
--- What a change of one part of an image comes to. The words are the program's: the calls are held to 01's by what the image means before and after.
+-- What a change of one part of an image comes to. The words are the program's: the calls are held to 01's by what the
+-- image means before and after.
 use mathlib.Core.Path.{_≡_}
 use mathlib.Core.Bool.{Bool, true, false}
 use mathlib.Core.List.{List, _++_}

@@ -4,7 +4,7 @@ ghost use lib.ListN.{length};
 ghost use Rattle.segment.specs.Plain.{withBaud};
 ghost use Rattle.segment_image.specs.Image.{decodeImage};
 ghost use Rattle.segment_places.specs.ProgramBecomes.{Becomes};
-use crate::bytes;
+use crate::place;
 use laws::least;
 use segment::INPUT;
 use segment::METERS;
@@ -17,14 +17,14 @@ use segment_image::WAITING_AT;
 pub fn baud_of(image: &[u8; IMAGE]) -> u32
     ensures { λ r. ⌜ r ≡ decodeImage (now (image .entry)) .baud ⌝ }
 {
-    bytes::four_at(image, 0)
+    place::four_at(image, 0)
 }
 
 pub fn origin_of(image: &[u8; IMAGE]) -> f64
     ensures { λ r. ⌜ r ≡ decodeImage (now (image .entry)) .origin ⌝ }
 {
-    let low = bytes::four_at(image, 4);
-    let high = bytes::four_at(image, 8);
+    let low = place::four_at(image, 4);
+    let high = place::four_at(image, 8);
     time_seconds::f64_from_bits(low as u64 + 4294967296 * (high as u64))
 }
 
@@ -32,19 +32,19 @@ pub fn origin_of(image: &[u8; IMAGE]) -> f64
 pub fn count_of(image: &[u8; IMAGE]) -> usize
     ensures { λ r. ⌜ r ≡ length (decodeImage (now (image .entry)) .meters) ⌝ }
 {
-    least(bytes::two_at(image, COUNT_AT), METERS)
+    least(place::two_at(image, COUNT_AT), METERS)
 }
 
 pub fn waiting_of(image: &[u8; IMAGE]) -> usize
     ensures { λ r. ⌜ r ≡ length (decodeImage (now (image .entry)) .input) ⌝ }
 {
-    least(bytes::two_at(image, WAITING_AT), INPUT)
+    least(place::two_at(image, WAITING_AT), INPUT)
 }
 
 pub fn queued_of(image: &[u8; IMAGE]) -> usize
     ensures { λ r. ⌜ r ≡ length (decodeImage (now (image .entry)) .queue) ⌝ }
 {
-    least(bytes::two_at(image, QUEUED_AT), QUEUE)
+    least(place::two_at(image, QUEUED_AT), QUEUE)
 }
 
 // Another bus baud.
@@ -52,5 +52,5 @@ pub fn put_baud(image: &mut [u8; IMAGE], baud: u32)
     ensures { λ _. ⌜ Becomes (now (image .entry)) (withBaud baud (decodeImage (now (image .entry)))) (now (image .exit)) ⌝ }
 {
     let b = numbers::le4(baud as u64);
-    bytes::put(image, 0, &b)
+    place::put(image, 0, &b)
 }

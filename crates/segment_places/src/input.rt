@@ -6,8 +6,8 @@ ghost use lib.ListN.{length, take, replicate};
 ghost use Rattle.segment.specs.Plain.{withInput};
 ghost use Rattle.segment_image.specs.Image.{decodeImage};
 ghost use Rattle.segment_places.specs.ProgramBecomes.{Becomes};
-use crate::bytes;
 use crate::head;
+use crate::place;
 use laws::least;
 use segment::INPUT;
 use segment_image::IMAGE;
@@ -31,9 +31,9 @@ fn put_input(image: &mut [u8; IMAGE], rest: &[u8])
     ensures { λ _. ⌜ Becomes (now (image .entry)) (withInput (now (rest .entry)) (decodeImage (now (image .entry)))) (now (image .exit)) ⌝ }
 {
     let none = nothing();
-    bytes::put(image, INPUT_AT, &none);
-    bytes::put(image, INPUT_AT, rest);
-    bytes::put_two(image, WAITING_AT, rest.len())
+    place::put(image, INPUT_AT, &none);
+    place::put(image, INPUT_AT, rest);
+    place::put_two(image, WAITING_AT, rest.len())
 }
 
 // These bytes wait, and no others: at most 260.
@@ -64,8 +64,8 @@ fn line_of(image: &[u8; IMAGE], waiting: usize, piece: &[u8]) -> [u8; LINE]
 {
     let mut line = blank_line();
     let whole = &image[..];
-    bytes::put(&mut line, 0, &whole[INPUT_AT..INPUT_AT + waiting]);
-    bytes::put(&mut line, waiting, piece);
+    place::put(&mut line, 0, &whole[INPUT_AT..INPUT_AT + waiting]);
+    place::put(&mut line, waiting, piece);
     line
 }
 

@@ -6,8 +6,8 @@ ghost use Rattle.meter.specs.View.{plainMeter};
 ghost use Rattle.segment.specs.Plain.{withMeters};
 ghost use Rattle.segment_image.specs.Image.{decodeImage};
 ghost use Rattle.segment_places.specs.ProgramBecomes.{meterIn, Becomes};
-use crate::bytes;
 use crate::head;
+use crate::place;
 use meter::Meter;
 use segment::METERS;
 use segment_image::IMAGE;
@@ -41,7 +41,7 @@ fn put_at(image: &mut [u8; IMAGE], i: usize, m: Meter)
     ensures { λ _. ⌜ Becomes (now (image .entry)) (withMeters (set (decodeImage (now (image .entry)) .meters) i (plainMeter m)) (decodeImage (now (image .entry)))) (now (image .exit)) ⌝ }
 {
     let b = meters::meter_bytes(m);
-    bytes::put(image, METERS_AT + METER * i, &b)
+    place::put(image, METERS_AT + METER * i, &b)
 }
 
 // Another meter at the place i, if one is there. All else stays as it is.

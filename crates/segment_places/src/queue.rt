@@ -7,8 +7,8 @@ ghost use lib.Seq.{paste};
 ghost use Rattle.segment.specs.Plain.{withQueue};
 ghost use Rattle.segment_image.specs.Image.{decodeImage};
 ghost use Rattle.segment_places.specs.ProgramBecomes.{Becomes, Queues, HandsOut};
-use crate::bytes;
 use crate::head;
+use crate::place;
 use laws::least;
 use segment::QUEUE;
 use segment_image::IMAGE;
@@ -23,8 +23,8 @@ pub fn append(image: &mut [u8; IMAGE], more: &[u8]) -> bool
     if QUEUE - queued < more.len() {
         return false;
     }
-    bytes::put(image, QUEUE_AT + queued, more);
-    bytes::put_two(image, QUEUED_AT, queued + more.len());
+    place::put(image, QUEUE_AT + queued, more);
+    place::put_two(image, QUEUED_AT, queued + more.len());
     true
 }
 
@@ -36,8 +36,8 @@ pub fn append_same(image: &mut [u8; IMAGE], n: usize, b: u8) -> bool
     if QUEUE - queued < n {
         return false;
     }
-    bytes::fill(image, QUEUE_AT + queued, n, b);
-    bytes::put_two(image, QUEUED_AT, queued + n);
+    place::fill(image, QUEUE_AT + queued, n, b);
+    place::put_two(image, QUEUED_AT, queued + n);
     true
 }
 
@@ -46,8 +46,8 @@ pub fn empty(image: &mut [u8; IMAGE])
     ensures { λ _. ⌜ Becomes (now (image .entry)) (withQueue [] (decodeImage (now (image .entry)))) (now (image .exit)) ⌝ }
 {
     let queued = head::queued_of(image);
-    bytes::fill(image, QUEUE_AT, queued, 0);
-    bytes::put_two(image, QUEUED_AT, 0)
+    place::fill(image, QUEUE_AT, queued, 0);
+    place::put_two(image, QUEUED_AT, 0)
 }
 
 // m bytes of the queue, from n on, go to its front.
@@ -68,8 +68,8 @@ fn shorten(image: &mut [u8; IMAGE], n: usize, queued: usize)
 {
     let m = queued - n;
     shift(image, n, m);
-    bytes::fill(image, QUEUE_AT + m, n, 0);
-    bytes::put_two(image, QUEUED_AT, m)
+    place::fill(image, QUEUE_AT + m, n, 0);
+    place::put_two(image, QUEUED_AT, m)
 }
 
 // The first n of the queued bytes are gone.
@@ -85,7 +85,7 @@ fn copy_out(image: &[u8; IMAGE], n: usize, lent: &mut [u8])
     ensures { λ _. ⌜ now (lent .exit) ≡ take n (decodeImage (now (image .entry)) .queue) ++ drop n (now (lent .entry)) ⌝ }
 {
     let whole = &image[..];
-    bytes::put(lent, 0, &whole[QUEUE_AT..QUEUE_AT + n])
+    place::put(lent, 0, &whole[QUEUE_AT..QUEUE_AT + n])
 }
 
 // The first of the queued bytes, at most so many and no more than are lent, become the first of what is lent; how many.

@@ -1,4 +1,5 @@
--- Replies joined by AND, byte by byte: one more reply at the end of the list, and the loop that lays it over those before.
+-- Replies joined by AND, byte by byte: one more reply at the end of the list, and the loop that lays it over those
+-- before.
 use mathlib.Core.Path.{_≡_, refl, sym, ap, ap₂, _∙_, subst}
 use mathlib.Core.Bool.{Bool, true, false, _&&_}
 use mathlib.Core.List.{List, [], _∷_, _++_}

@@ -6,13 +6,14 @@ use lib.Dec.{eqb}
 use lib.Bits.{bitAnd}
 use lib.ListN.{length, getD}
 use Rattle.laws.specs.Words.{if_then_else_}
+use Rattle.frame.specs.Protocol.{ackByte}
 
 -- ---- "Replies join thus"
 
 -- equal to E5
 abbrev pub isE5 : List ℕ → Bool
 isE5 [] = false
-isE5 (b ∷ []) = eqb b 0xE5
+isE5 (b ∷ []) = eqb b ackByte
 isE5 (b ∷ c ∷ bs) = false
 
 abbrev pub allE5 : List (List ℕ) → Bool

@@ -5,6 +5,7 @@ use Prim.Native.Nat.{ℕ}
 use lib.Dec.{ltb}
 use lib.ListN.{length}
 use Rattle.laws.specs.Words.{if_then_else_}
+use Rattle.laws.specs.Refusal.{refusedPiece, refusedClock, refusedQueue}
 use Rattle.time_clock.specs.declared.Clock.{Clock}
 use Rattle.time_clock.specs.Fields.{goodClock}
 use Rattle.segment.specs.Plain.{Plain, withInput}
@@ -13,11 +14,12 @@ use Rattle.segment_send.specs.Steps.{handledAll}
 
 -- 15: "queue would pass 4,096"
 abbrev pub fitsQueue : Plain → Plain → Done
-fitsQueue s t = if ltb 4096 (length (t .queue)) then refused 15 s else accepted t
+fitsQueue s t = if ltb 4096 (length (t .queue)) then refused refusedQueue s else accepted t
 
--- 13: "piece over 1,024"; 14: "a clock field out of range"; "The piece joins the waiting input.", and the steps are taken
+-- 13: "piece over 1,024"; 14: "a clock field out of range"; "The piece joins the waiting input.", and the steps are
+-- taken
 unfoldable pub send : List ℕ → Clock → Plain → Done
 send piece k s =
-    if ltb 1024 (length piece) then refused 13 s else
-    if not (goodClock k) then refused 14 s else
+    if ltb 1024 (length piece) then refused refusedPiece s else
+    if not (goodClock k) then refused refusedClock s else
     fitsQueue s (handledAll k (withInput (s .input ++ piece) s))

@@ -9,6 +9,7 @@ ghost use Rattle.segment_image.specs.Answers.{DoneImage};
 ghost use Rattle.segment_send.specs.Steps.{handledAll};
 ghost use Rattle.segment_send.specs.Send.{fitsQueue, send};
 ghost use Rattle.segment_send.specs.View.{sendingNumber};
+use laws::refused;
 use segment_image::IMAGE;
 use segment_places::head;
 use segment_places::input;
@@ -30,10 +31,10 @@ pub fn sending_number(answer: Sending) -> u32
     ensures { λ r. ⌜ r ≡ sendingNumber answer ⌝ }
 {
     match answer {
-        Sending::Accepted => 0,
-        Sending::PieceTooLong => 13,
-        Sending::ClockOutOfRange => 14,
-        Sending::QueueFull => 15,
+        Sending::Accepted => refused::NOT_REFUSED,
+        Sending::PieceTooLong => refused::PIECE,
+        Sending::ClockOutOfRange => refused::CLOCK,
+        Sending::QueueFull => refused::QUEUE,
     }
 }
 

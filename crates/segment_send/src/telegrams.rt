@@ -18,7 +18,8 @@ use time_clock::Clock;
 // The shortest telegram that anybody replies to.
 const SHORTEST: usize = 5;
 
-// Telegrams in turn. An incomplete one waits, an invalid one discards all remaining input. Where the queue would be too long, what was done
+// Telegrams in turn. An incomplete one waits, an invalid one discards all remaining input. Where the queue would be
+// too long, what was done
 // until then is left as it is.
 fn handle_in_turn(image: &mut [u8; IMAGE], bytes: &[u8], clock: Clock) -> bool
     ensures { λ r. ⌜ Comes (handledAll clock (withInput (now (bytes .entry)) (decodeImage (now (image .entry))))) (length (now (bytes .entry)) / 5) (now (image .entry)) r (now (image .exit)) ⌝ }

@@ -4,6 +4,7 @@ use mathlib.Core.List.{List, [], _∷_, _++_, map}
 use Prim.Native.Nat.{ℕ}
 use lib.Dec.{eqb}
 use Rattle.laws.specs.Words.{if_then_else_}
+use Rattle.frame.specs.Protocol.{addrBroadcast}
 use Rattle.frame.specs.Frame.{Telegram, ack, short, long}
 use Rattle.time_seconds.specs.Seconds.{elapsedOf}
 use Rattle.time_clock.specs.declared.Clock.{Clock}
@@ -23,8 +24,8 @@ replies (h ∷ hs) = withReply (h .reply) (replies hs)
 -- a telegram to address FF; ACK has no address
 abbrev pub toBroadcast : Telegram → Bool
 toBroadcast ack = false
-toBroadcast (short c a) = eqb a 0xFF
-toBroadcast (long c a ci d) = eqb a 0xFF
+toBroadcast (short c a) = eqb a addrBroadcast
+toBroadcast (long c a ci d) = eqb a addrBroadcast
 
 -- every meter hears the telegram in its own way; elapsed is now - origin, one rounding, not below 0
 unfoldable pub heardBy : Telegram → Clock → Plain → List Heard

@@ -16,8 +16,10 @@ mayReply ack = 0
 mayReply (short c a) = 1
 mayReply (long c a ci d) = 1
 
--- Telegrams that give the segment s, with at most n replies, were handled. Done: the image means s. Else the queue of s would be too long.
--- A reply has 96 bytes at the most, which bounds the queue of s where it was done, and tells where it cannot be too long
+-- Telegrams that give the segment s, with at most n replies, were handled. Done: the image means s. Else the queue of
+-- s would be too long.
+-- A reply has 96 bytes at the most, which bounds the queue of s where it was done, and tells where it cannot be too
+-- long
 pub record Comes (s : Plain) (n : ℕ) (old : List ℕ) (r : Bool) (new : List ℕ) : Type 0 where
   pub done : r ≡ true → Becomes old s new
   pub full : r ≡ false → 4096 < length (s .queue)

@@ -22,7 +22,8 @@ use Rattle.segment_places.specs.ProgramBecomes.{meterIn, Becomes}
 abbrev pub concernsMeter : Telegram → PlainMeter → Bool
 concernsMeter t m = concerns t (m .primary) (m .selected) (m .digits)
 
--- r is the first place, from one on, of a meter that every telegram concerns whose meters q seeks; or the end. None of those concerns a meter before it
+-- r is the first place, from one on, of a meter that every telegram concerns whose meters q seeks; or the end. None
+-- of those concerns a meter before it
 pub record Skips (q : Seeking) (image : List ℕ) (from end r : ℕ) : Type 0 where
   pub onward : from ≤ r
   pub within : r ≤ end

@@ -3,6 +3,7 @@ ghost use mathlib.Core.Path.{_≡_};
 ghost use mathlib.Core.List.{List};
 ghost use Prim.Native.Nat.{ℕ, _≤_};
 ghost use lib.Dec.{eqb};
+ghost use Rattle.frame.specs.Protocol.{addrBroadcast};
 ghost use Rattle.frame.specs.View.{telegramOf};
 ghost use Rattle.segment_replies.specs.ProgramJoining.{replyMost, bytesKept};
 ghost use Rattle.segment_image.specs.Image.{decodeImage};
@@ -19,7 +20,7 @@ use time_clock::Clock;
 mod sweep; // sweep.rt: the meters hear a telegram
 
 fn is_broadcast(address: u8) -> bool
-    ensures { λ r. ⌜ r ≡ eqb address 0xFF ⌝ }
+    ensures { λ r. ⌜ r ≡ eqb address addrBroadcast ⌝ }
 {
     address == frame::ADDR_BROADCAST
 }

@@ -12,7 +12,7 @@ use time_clock::Clock;
 fn open(image: &mut [u8; IMAGE], list: &[u8], baud: u32, practice: bool, origin: f64) {
     let answer = segment_calls::open(image, list, baud, practice, origin);
     print::text(b"open");
-    print::next(print::wide8(list_check::refusal::refusal_number(answer)));
+    print::next(list_check::refusal::refusal_number(answer) as u64);
     print::next(print::wide(list_check::refusal::refusal_index(answer)));
     print::line();
 }

@@ -43,29 +43,31 @@ fn last_number(last: LastFcb) -> u64 {
 
 // The first seven numbers of a meter's line.
 fn kind(m: Meter) {
-    let model = m.model;
-    let fault = m.fault;
-    print::decimal(print::wide8(m.primary));
+    let built = m.built;
+    let model = built.model;
+    let fault = built.fault;
+    print::decimal(print::wide8(m.state.primary));
     print::blank();
-    print::hex(print::wide32(m.id), 8);
-    print::next(print::wide16(m.manufacturer));
-    print::next(print::wide8(m.version));
-    print::next(print::wide8(m.medium));
+    print::hex(print::wide32(built.id), 8);
+    print::next(print::wide16(built.manufacturer));
+    print::next(print::wide8(built.version));
+    print::next(print::wide8(built.medium));
     print::next(model_number(model));
     print::next(fault_number(fault));
 }
 
 // The other eight.
 fn condition(m: Meter) {
-    let last = m.last;
-    print::next(print::wide8(m.access));
-    print::next(print::wide32(m.baud));
-    print::next(print::bit(m.selected));
-    print::next(print::wide8(m.part));
+    let state = m.state;
+    let last = state.last;
+    print::next(print::wide8(state.access));
+    print::next(print::wide32(state.baud));
+    print::next(print::bit(state.selected));
+    print::next(print::wide8(state.part));
     print::next(last_number(last));
-    print::next(print::wide8(m.readouts));
-    print::next(print::wide32(m.seed));
-    print::next(print::bit(m.hearing));
+    print::next(print::wide8(state.readouts));
+    print::next(print::wide32(m.built.seed));
+    print::next(print::bit(state.hearing));
 }
 
 fn meter(m: Meter) {
@@ -115,7 +117,7 @@ fn listening(segment: Segment) -> usize {
     let mut i: usize = 0;
     while i < end {
         let m = segment.meters[i];
-        n += one_if(m.baud == segment.baud);
+        n += one_if(m.state.baud == segment.baud);
         i += 1;
     }
     n

@@ -1,4 +1,5 @@
--- The calls' arguments: those that fit are values that the machine can hold, and a call is entered with them and left with their last values.
+-- The calls' arguments: those that fit are values that the machine can hold, and a call is entered with them and left
+-- with their last values.
 use mathlib.Core.Path.{_≡_, refl, subst, _∙_}
 use mathlib.Core.Bool.{Bool}
 use mathlib.Core.Logic.{∥∥₁-prop, ∥∥₁-elim, ∥∥₁-map}

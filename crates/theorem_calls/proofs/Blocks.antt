@@ -1,6 +1,9 @@
--- Values that lie in a block of the machine's memory, lent as a slice for a call, and loaded by the machine afterwards. For any type of one machine value; it says nothing of this program.
---     sat-alloc, sat-store         a block is made, and a value is stored to it, by the machine's own `allocM` and `storeM`
---     lend-cells, cells-back       the values are lent as a `&mut [T]` for a call, and are there again after it, as the function left them
+-- Values that lie in a block of the machine's memory, lent as a slice for a call, and loaded by the machine
+-- afterwards. For any type of one machine value; it says nothing of this program.
+--     sat-alloc, sat-store         a block is made, and a value is stored to it, by the machine's own `allocM` and
+--                                  `storeM`
+--     lend-cells, cells-back       the values are lent as a `&mut [T]` for a call, and are there again after it, as
+--                                  the function left them
 --     share-cells                  the values are lent as a `&[T]`
 --     holds                        the memory `holding σ xs` has the values xs in its last block
 --     loads                        the machine loads the values that a block has
@@ -69,7 +72,8 @@ module _ {M : Type 1} (𝓤 : URA M) (H : Heap 𝓤) (𝓜 : Model 𝓤 H) where
       (via 𝓤 (guard 𝓤 (φ σ′) (Up σ′)) (guardI 𝓤 (φ σ′) (Up σ′) e) (exI 𝓤 (λ (ρ : Memory). guard 𝓤 (φ ρ) (Up ρ)) σ′))))))) s)) ∥∥₁-prop (λ t.
       ∥∥₁-map (Sat·exists 𝓤 (λ (_ : φ (t .0)). Up (t .0)) (t .1)) (λ u. (t .0, u .0, sProp·Sat·bupd 𝓤 (sep 𝓤 (𝓜 .mem (t .0)) (sep 𝓤 At F)) (u .1))))
 
--- ---- the same for a slice of any type, a struct's too: what lies at a block is lent for a call, and is there again after it, as the function left it
+-- ---- the same for a slice of any type, a struct's too: what lies at a block is lent for a call, and is there again
+-- after it, as the function left it
 module _ {M : Type 1} (𝓤 : URA M) (H : Heap 𝓤) (A : Atoms 𝓤) (W : Given 𝓤 H A) (R : RattleType) where
   abbrev pub LentOf : ℕ → List (R .Denot) → ℕ → GName → SProp 𝓤
   LentOf b xs α γ =

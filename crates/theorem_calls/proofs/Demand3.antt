@@ -24,7 +24,7 @@ use Rattle.segment.specs.Plain.{Plain, blank}
 use Rattle.segment_image.specs.Image.{decodeImage, encodeImage}
 use Rattle.search_walk.proofs.Seen.{WellFormed}
 use Rattle.search.proofs.WellLaws.{blank-well}
-use Rattle.jezynar.proofs.segment_new.Symbol.{routine as new-routine}
+use Rattle.jezynar.proofs.jezynar_segment_new.Symbol.{routine as new-routine}
 use Rattle.theorem_calls.specs.Call.{Call, opening, afterCalls}
 use Rattle.theorem_calls.specs.Fit.{Byte, FitCall}
 use Rattle.theorem_calls.specs.Demand3.{block, start, Run, HoldsImage, AllRight, Demand3}

@@ -1,4 +1,5 @@
--- What the contract of a call says, of the bytes of the image before and after it; and what follows of 01's answer and segment.
+-- What the contract of a call says, of the bytes of the image before and after it; and what follows of 01's answer
+-- and segment.
 use mathlib.Core.Path.{_≡_, refl, sym, ap, subst, _∙_}
 use mathlib.Core.Bool.{Bool, true, false}
 use mathlib.Core.List.{List, [], _∷_}

@@ -1,8 +1,11 @@
--- What a caller lends for one call, in any number: arrays that stay in their block from call to call, and slices in fresh blocks. For any function; it says nothing of this program.
---     Loan             one reference: what is in memory before and after the call, what the function is given, and what the lender keeps aside
+-- What a caller lends for one call, in any number: arrays that stay in their block from call to call, and slices in
+-- fresh blocks. For any function; it says nothing of this program.
+--     Loan             one reference: what is in memory before and after the call, what the function is given, and
+--                      what the lender keeps aside
 --     ref-loan         one value lent as a `&mut T`, and there again after the call.        T is an array for an image
 --     slice-loan       values lent as a `&mut [T]`, and there again.        shared-slice-loan     as a `&[T]`
---     called           a function that is given a list of loans comes to its end, its promise is a plain fact of the result and of the last values, and memory has these
+--     called           a function that is given a list of loans comes to its end, its promise is a plain fact of the
+--                      result and of the last values, and memory has these
 -- Assumes a `Model`, and `Given`.
 use mathlib.Core.Logic.{∥∥₁-prop, ∥∥₁-elim, ∥∥₁-map}
 use mathlib.Core.List.{List, [], _∷_}

@@ -1,4 +1,5 @@
--- Each routine, from any memory that has the image in block b: it runs to its end, and what it returns and leaves is what the contract says.
+-- Each routine, from any memory that has the image in block b: it runs to its end, and what it returns and leaves is
+-- what the contract says.
 use mathlib.Core.Path.{_≡_}
 use mathlib.Core.Bool.{Bool}
 use mathlib.Core.Logic.{∥∥₁-prop, ∥∥₁-elim, ∥∥₁-map}
@@ -33,27 +34,27 @@ use Rattle.search.proofs.search as search-into-contract
 use Rattle.search.proofs.search.Symbol.{routine as search-into-routine}
 use Rattle.search.proofs.search.Met as search-into-met
 use Rattle.c_search.specs.Searches.{searchBy, Searches}
-use Rattle.jezynar.proofs.segment_new as new-contract
-use Rattle.jezynar.proofs.segment_new.Symbol.{routine as new-routine}
-use Rattle.jezynar.proofs.segment_new.Met as new-met
-use Rattle.jezynar.proofs.segment_open as open-contract
-use Rattle.jezynar.proofs.segment_open.Symbol.{routine as open-routine}
-use Rattle.jezynar.proofs.segment_open.Met as open-met
-use Rattle.jezynar.proofs.segment_send as send-contract
-use Rattle.jezynar.proofs.segment_send.Symbol.{routine as send-routine}
-use Rattle.jezynar.proofs.segment_send.Met as send-met
-use Rattle.jezynar.proofs.segment_receive as receive-contract
-use Rattle.jezynar.proofs.segment_receive.Symbol.{routine as receive-routine}
-use Rattle.jezynar.proofs.segment_receive.Met as receive-met
-use Rattle.jezynar.proofs.segment_clear as clear-contract
-use Rattle.jezynar.proofs.segment_clear.Symbol.{routine as clear-routine}
-use Rattle.jezynar.proofs.segment_clear.Met as clear-met
-use Rattle.jezynar.proofs.segment_set_baud as set-baud-contract
-use Rattle.jezynar.proofs.segment_set_baud.Symbol.{routine as set-baud-routine}
-use Rattle.jezynar.proofs.segment_set_baud.Met as set-baud-met
-use Rattle.jezynar.proofs.segment_search as search-contract
-use Rattle.jezynar.proofs.segment_search.Symbol.{routine as search-routine}
-use Rattle.jezynar.proofs.segment_search.Met as search-met
+use Rattle.jezynar.proofs.jezynar_segment_new as new-contract
+use Rattle.jezynar.proofs.jezynar_segment_new.Symbol.{routine as new-routine}
+use Rattle.jezynar.proofs.jezynar_segment_new.Met as new-met
+use Rattle.jezynar.proofs.jezynar_segment_open as open-contract
+use Rattle.jezynar.proofs.jezynar_segment_open.Symbol.{routine as open-routine}
+use Rattle.jezynar.proofs.jezynar_segment_open.Met as open-met
+use Rattle.jezynar.proofs.jezynar_segment_send as send-contract
+use Rattle.jezynar.proofs.jezynar_segment_send.Symbol.{routine as send-routine}
+use Rattle.jezynar.proofs.jezynar_segment_send.Met as send-met
+use Rattle.jezynar.proofs.jezynar_segment_receive as receive-contract
+use Rattle.jezynar.proofs.jezynar_segment_receive.Symbol.{routine as receive-routine}
+use Rattle.jezynar.proofs.jezynar_segment_receive.Met as receive-met
+use Rattle.jezynar.proofs.jezynar_segment_clear as clear-contract
+use Rattle.jezynar.proofs.jezynar_segment_clear.Symbol.{routine as clear-routine}
+use Rattle.jezynar.proofs.jezynar_segment_clear.Met as clear-met
+use Rattle.jezynar.proofs.jezynar_segment_set_baud as set-baud-contract
+use Rattle.jezynar.proofs.jezynar_segment_set_baud.Symbol.{routine as set-baud-routine}
+use Rattle.jezynar.proofs.jezynar_segment_set_baud.Met as set-baud-met
+use Rattle.jezynar.proofs.jezynar_segment_search as search-contract
+use Rattle.jezynar.proofs.jezynar_segment_search.Symbol.{routine as search-routine}
+use Rattle.jezynar.proofs.jezynar_segment_search.Met as search-met
 use Rattle.theorem_calls.specs.Call.{Call, opening, sending, receiving, clearing, changing, searching, searchingInto}
 use Rattle.theorem_calls.specs.Fit.{FitCall}
 use Rattle.theorem_calls.specs.Made.{withBytes, withRecords, lentAt, arrayAt, Runs}

@@ -18,12 +18,12 @@ use Rattle.time_clock.proofs.Clock.Laws.{lowered as clock-value}
 use Rattle.segment_image.specs.Image.{decodeImage, encodeImage, Exact}
 use Rattle.search_walk.proofs.Seen.{WellFormed}
 use Rattle.search.proofs.search.Symbol.{routine as search-into-routine}
-use Rattle.jezynar.proofs.segment_open.Symbol.{routine as open-routine}
-use Rattle.jezynar.proofs.segment_send.Symbol.{routine as send-routine}
-use Rattle.jezynar.proofs.segment_receive.Symbol.{routine as receive-routine}
-use Rattle.jezynar.proofs.segment_clear.Symbol.{routine as clear-routine}
-use Rattle.jezynar.proofs.segment_set_baud.Symbol.{routine as set-baud-routine}
-use Rattle.jezynar.proofs.segment_search.Symbol.{routine as search-routine}
+use Rattle.jezynar.proofs.jezynar_segment_open.Symbol.{routine as open-routine}
+use Rattle.jezynar.proofs.jezynar_segment_send.Symbol.{routine as send-routine}
+use Rattle.jezynar.proofs.jezynar_segment_receive.Symbol.{routine as receive-routine}
+use Rattle.jezynar.proofs.jezynar_segment_clear.Symbol.{routine as clear-routine}
+use Rattle.jezynar.proofs.jezynar_segment_set_baud.Symbol.{routine as set-baud-routine}
+use Rattle.jezynar.proofs.jezynar_segment_search.Symbol.{routine as search-routine}
 use Rattle.theorem_calls.specs.Call.{Call, opening, sending, receiving, clearing, changing, searching, searchingInto, afterCall}
 use Rattle.theorem_calls.specs.Fit.{FitCall}
 use Rattle.theorem_calls.specs.Made.{withBytes, withRecords, lentAt, arrayAt, clockThen, Runs}

@@ -52,7 +52,8 @@ Gives s (searching k allowance entries summary) a =
 Gives s (searchingInto k allowance lent) a =
     let r = searchCall k allowance lent s in a ≡ searchedInto (r .number) (r .count) (r .probes) (r .spent) (r .lent)
 
--- A search that is not refused: its entries, probes, spent and segment are those of the walk over s; its price, when it is spent, its entries, their order,
+-- A search that is not refused: its entries, probes, spent and segment are those of the walk over s; its price, when
+-- it is spent, its entries, their order,
 -- each meter in exactly one of them, and the bound
 abbrev pub Demands : Plain → Call → Type 0
 Demands s (opening list bus practice origin) = Unit {0}

@@ -11,7 +11,8 @@ use Rattle.search.specs.declared.EntryRecord.{EntryRecord}
 use Rattle.search.specs.SearchCall.{searchCall}
 use Rattle.c_search.specs.Searches.{searchBy}
 
--- The exported calls, and the search over lent entry records. What is lent is an argument: the bytes, or records, that stand there before the call.
+-- The exported calls, and the search over lent entry records. What is lent is an argument: the bytes, or records,
+-- that stand there before the call.
 -- opening: list, bus baud, practice flag, origin
 -- sending: piece, clock
 -- receiving: the lent bytes

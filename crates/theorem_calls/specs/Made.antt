@@ -1,6 +1,9 @@
--- The machine makes a list of calls with the program's own routines: the entry points of the static library, and the search over lent entry records.
--- The segment's image lies in one block from the first call to the last. No contract is named here, and nothing of the logic.
---     ends ρ vs σ v σ′     the machine, called at the routine ρ with the machine values vs in the memory σ, comes to its end: it returns v, and the memory is then σ′. It ends in one way
+-- The machine makes a list of calls with the program's own routines: the entry points of the static library, and the
+-- search over lent entry records.
+-- The segment's image lies in one block from the first call to the last. No contract is named here, and nothing of
+-- the logic.
+--     ends ρ vs σ v σ′     the machine, called at the routine ρ with the machine values vs in the memory σ, comes to
+--                          its end: it returns v, and the memory is then σ′. It ends in one way
 --     vptr b 0             a pointer to the first byte of block b
 --     X-value              a struct as the machine has it: the values of its fields, in the order written
 use mathlib.Core.List.{List, [], _∷_}
@@ -17,12 +20,12 @@ use Rattle.time_clock.proofs.Clock.Laws.{lowered as clock-value}
 use Rattle.search.proofs.EntryRecord.Laws.{mir as record-ty, lowered as record-value}
 use Rattle.search.proofs.search.Symbol.{routine as search-into-routine}
 use Rattle.search.specs.declared.EntryRecord.{EntryRecord}
-use Rattle.jezynar.proofs.segment_open.Symbol.{routine as open-routine}
-use Rattle.jezynar.proofs.segment_send.Symbol.{routine as send-routine}
-use Rattle.jezynar.proofs.segment_receive.Symbol.{routine as receive-routine}
-use Rattle.jezynar.proofs.segment_clear.Symbol.{routine as clear-routine}
-use Rattle.jezynar.proofs.segment_set_baud.Symbol.{routine as set-baud-routine}
-use Rattle.jezynar.proofs.segment_search.Symbol.{routine as search-routine}
+use Rattle.jezynar.proofs.jezynar_segment_open.Symbol.{routine as open-routine}
+use Rattle.jezynar.proofs.jezynar_segment_send.Symbol.{routine as send-routine}
+use Rattle.jezynar.proofs.jezynar_segment_receive.Symbol.{routine as receive-routine}
+use Rattle.jezynar.proofs.jezynar_segment_clear.Symbol.{routine as clear-routine}
+use Rattle.jezynar.proofs.jezynar_segment_set_baud.Symbol.{routine as set-baud-routine}
+use Rattle.jezynar.proofs.jezynar_segment_search.Symbol.{routine as search-routine}
 use Rattle.theorem_calls.specs.Call.{Call, opening, sending, receiving, clearing, changing, searching, searchingInto}
 use Rattle.theorem_calls.specs.Lent.{holding}
 
@@ -46,7 +49,8 @@ arrayAt σ = vptr (length σ) 0
 abbrev pub clockThen : Clock → List Val → List Val
 clockThen k vs = vfloat binary64 (k .now) ∷ vint w32 (k .year) ∷ vint w32 (k .month) ∷ vint w32 (k .day) ∷ vint w32 (k .hour) ∷ vint w32 (k .minute) ∷ vs
 
--- One call on the image in block b, in the memory σ. Everything else that is lent lies in a block of its own: a search has one for the entries, and behind it one for the summary.
+-- One call on the image in block b, in the memory σ. Everything else that is lent lies in a block of its own: a
+-- search has one for the entries, and behind it one for the summary.
 abbrev pub Runs : ℕ → Call → Memory → Val → Memory → Type 0
 Runs b (opening list bus practice origin) σ r σ′ = ends open-routine (vptr b 0 ∷ lentAt σ (length list) ∷ vint w32 bus ∷ vbool practice ∷ vfloat binary64 origin ∷ []) (withBytes σ list) r σ′
 Runs b (sending piece k) σ r σ′ = ends send-routine (vptr b 0 ∷ lentAt σ (length piece) ∷ clockThen k []) (withBytes σ piece) r σ′

@@ -23,7 +23,8 @@ BytesIn σ b bs = Loads (tyInt w8) (vint w8) σ b 0 bs
 abbrev pub RecordsIn : Memory → ℕ → List EntryRecord → Type 0
 RecordsIn σ b es = Loads record-ty record-value σ b 0 es
 
--- A call that was made in the memory σ returned r, and the memory is then σ′: that is the answer a. What is lent lies where `Runs` puts it.
+-- A call that was made in the memory σ returned r, and the memory is then σ′: that is the answer a. What is lent lies
+-- where `Runs` puts it.
 -- An opening's number stands in the low byte of what it returns, its index above.
 abbrev pub Reads : Call → Memory → Val → Memory → Answer → Type 0
 Reads (opening list bus practice origin) σ r σ′ a = (n : ℕ) × (r ≡ vint w32 n) × (a ≡ opened (n % 256) (n / 256))

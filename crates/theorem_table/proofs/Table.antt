@@ -1,4 +1,4 @@
--- The table, line by line: by computation, but for the general half of (j) and the price of (l).
+-- The table, line by line: by computation, but for what (j) says of every segment and the price of (l).
 use mathlib.Core.Path.{_≡_, refl}
 use mathlib.Core.Bool.{false}
 use mathlib.Core.List.{List, [], _∷_}
@@ -42,6 +42,7 @@ use Rattle.search.specs.Demanded.{Demanded}
 use Rattle.search_walk.proofs.Bound.{D-none}
 use Rattle.search.proofs.Demanded.{demanded}
 use Rattle.search.proofs.WellLaws.{opening-well, blank-well}
+use Rattle.theorem_table.proofs.OneProbe.{one-probe}
 use Rattle.theorem_table.specs.Table.{walked, outcome, busyAt11, noMeter, oneMeter, twice, Table}
 
 -- to unfold this is to unfold every definition that a search computes with
@@ -115,7 +116,8 @@ table =
       j-opens = line-j-opens;
       j-none = line-j-none;
       j-one = line-j-one;
-      j = λ s h. omega (arith, D-none (atBusBaud s) h);
+      j = one-probe;
+      j-price = λ s h. omega (arith, D-none (atBusBaud s) h);
       k = line-k;
       l = line-l;
       l-price = line-l-price;

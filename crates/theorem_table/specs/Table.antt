@@ -6,6 +6,7 @@ use Prim.Native.Nat.{ℕ, _+_, _*_, _≤_}
 use lib.IntN.{pos}
 use lib.Ieee.{Float, nan, fin, binary64, round}
 use lib.ListN.{length}
+use Rattle.laws.specs.Ascii.{ascii}
 use Rattle.list_check.specs.Tables.{medium-heat, medium-water, fault-none, fault-busy}
 use Rattle.list.specs.Written.{writeList}
 use Rattle.search.specs.Site.{site, october}
@@ -24,6 +25,8 @@ use Rattle.segment_replies.specs.Replies.{joined}
 use Rattle.segment_send.specs.Send.{send}
 use Rattle.search_walk.specs.Walk.{maskDigits, mask, Entry, one, many, Walked, wholeWalk}
 use Rattle.search_walk.specs.Entries.{atBusBaud, D}
+use Rattle.search.specs.declared.EntryRecord.{EntryRecord}
+use Rattle.search.specs.SearchCall.{searchCall}
 
 -- its search with an allowance of 10,000
 abbrev pub walked : List ℕ → Walked
@@ -55,7 +58,7 @@ pub record Table : Type 0 where
   -- (b) mask 1
   pub b : idBytes (maskDigits (1 ∷ [])) ≡ 0xFF ∷ 0xFF ∷ 0xFF ∷ 0x1F ∷ []
   -- (c) KAM, SEN, empty
-  pub c : (manufacturerCode (0x4B ∷ 0x41 ∷ 0x4D ∷ []) ≡ 0x2C2D) × (manufacturerCode (0x53 ∷ 0x45 ∷ 0x4E ∷ []) ≡ 0x4CAE) × (manufacturerCode [] ≡ 0x0000)
+  pub c : (manufacturerCode (ascii "KAM") ≡ 0x2C2D) × (manufacturerCode (ascii "SEN") ≡ 0x4CAE) × (manufacturerCode [] ≡ 0x0000)
   -- (d) 12345 in four BCD bytes
   pub d : bcd 4 12345 ≡ 0x45 ∷ 0x23 ∷ 0x01 ∷ 0x00 ∷ []
   -- (e) busy at 11, asked by REQ_UD2
@@ -68,11 +71,15 @@ pub record Table : Type 0 where
   pub h : (whole last32 (elapsedOf (round binary64 false 599 10) zeroSeconds) ≡ 59) × (whole last32 (elapsedOf nan zeroSeconds) ≡ 0)
   -- (i) the seed of id 12345678
   pub i : seedOf false (1 ∷ 2 ∷ 3 ∷ 4 ∷ 5 ∷ 6 ∷ 7 ∷ 8 ∷ []) ≡ 43672
-  -- (j) no meter (the list is opened, not refused), one meter; and the price of no or one meter at bus baud, whatever it is
+  -- (j) no meter (the list is opened, not refused), one meter; "no meter or one: 1 probe" of every segment with at
+  -- most one meter at bus baud, a flaky one too:
+  -- a search that is not refused and may make a probe makes 1 and is not spent; and its price
   pub j-opens : openList noMeter 2400 false ≡ opens []
   pub j-none : outcome (walked noMeter) ≡ ([], 1, false)
   pub j-one : outcome (walked oneMeter) ≡ (one (6 ∷ 1 ∷ 0 ∷ 0 ∷ 0 ∷ 0 ∷ 0 ∷ 1 ∷ []) ∷ [], 1, false)
-  pub j : (s : Plain) → length (atBusBaud s) ≤ 1 → 1 + 10 * D (atBusBaud s) ≡ 1
+  pub j : (k : Clock) (allowance : ℕ) (lent : List EntryRecord) (s : Plain) → (searchCall k allowance lent s) .number ≡ 0 → 1 ≤ allowance → length (atBusBaud s) ≤ 1
+      → ((searchCall k allowance lent s) .probes ≡ 1) × ((searchCall k allowance lent s) .spent ≡ false)
+  pub j-price : (s : Plain) → length (atBusBaud s) ≤ 1 → 1 + 10 * D (atBusBaud s) ≡ 1
   -- (k) 77777777 twice
   pub k : outcome (walked twice) ≡ (many (7 ∷ 7 ∷ 7 ∷ 7 ∷ 7 ∷ 7 ∷ 7 ∷ 7 ∷ []) 2 ∷ [], 81, false)
   -- (l) ok10 at 2400: 201 probes, and its price

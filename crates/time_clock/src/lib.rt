@@ -1,6 +1,6 @@
 // The clock that a call is given.
 ghost use mathlib.Core.Path.{_≡_};
-ghost use Rattle.time_clock.specs.Fields.{goodClock};
+ghost use Rattle.time_clock.specs.Fields.{clockAt, goodClock};
 use laws::is_within;
 
 // Seconds, and the date and time of day that meters write.
@@ -23,4 +23,18 @@ pub fn good_clock(clock: Clock) -> bool
     let hour = is_within(0, 23, clock.hour);
     let minute = is_within(0, 59, clock.minute);
     year & month & day & hour & minute
+}
+
+// A clock by its six numbers.
+pub fn clock_at(secs: f64, year: u32, month: u32, day: u32, hour: u32, minute: u32) -> Clock
+    ensures { λ r. ⌜ r ≡ clockAt secs year month day hour minute ⌝ }
+{
+    Clock {
+        now: secs,
+        year: year,
+        month: month,
+        day: day,
+        hour: hour,
+        minute: minute,
+    }
 }

@@ -1,4 +1,5 @@
--- The whole part of a float, by the fields of its bit pattern. F is the sign and the exponent's field, t the digits' field, and 2 ^ 52 + t the digits with the leading one.
+-- The whole part of a float, by the fields of its bit pattern. F is the sign and the exponent's field, t the digits'
+-- field, and 2 ^ 52 + t the digits with the leading one.
 use mathlib.Core.Path.{_≡_, refl, sym, ap, _∙_, subst}
 use mathlib.Core.Bool.{Bool, true, false, not, cond, true≢false}
 use Prim.Native.Nat.{ℕ, zero, suc, _+_, _-_, _*_, _/_, _%_, _^_, _≤_, _<_, min}

@@ -1,4 +1,5 @@
--- What `Seconds.antt` says, held to the examples of 01, to the bounds that define a whole part, and to the logic's own account of Rust's `as`.
+-- What `Seconds.antt` says, held to the examples of 01, to the bounds that define a whole part, and to the logic's
+-- own account of Rust's `as`.
 use mathlib.Core.Path.{_≡_, refl, sym, ap, subst}
 use mathlib.Core.Bool.{true, false}
 use Prim.Native.Nat.{ℕ, suc, _*_, _/_, _^_, _≤_, _<_, min}

@@ -68,10 +68,3 @@ pub fn f64_from_bits(n: u64) -> f64
     }
     f64::from_bits(n)
 }
-
-// There and back: the same float, a NaN too.
-pub fn f64_round_trip(x: f64) -> f64
-    ensures { λ r. ⌜ r ≡ x ⌝ }
-{
-    f64_from_bits(f64_bits(x))
-}

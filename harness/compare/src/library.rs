@@ -9,24 +9,24 @@ const METERS: usize = 4374;
 const METER: usize = 25;
 
 extern "C" {
-    fn segment_image_len() -> usize;
-    fn segment_new(image: *mut u8);
-    fn segment_tidy(image: *mut u8);
-    fn segment_open(image: *mut u8, list: *const u8, len: usize, baud: u32, practice: bool, origin: f64) -> u32;
-    fn segment_send(image: *mut u8, piece: *const u8, len: usize, secs: f64, year: u32, month: u32, day: u32, hour: u32, minute: u32) -> u32;
-    fn segment_receive(image: *mut u8, lent: *mut u8, len: usize) -> usize;
-    fn segment_clear(image: *mut u8);
-    fn segment_set_baud(image: *mut u8, baud: u32) -> u32;
-    fn segment_search(
+    fn jezynar_segment_image_len() -> usize;
+    fn jezynar_segment_new(image: *mut u8);
+    fn jezynar_segment_tidy(image: *mut u8);
+    fn jezynar_segment_open(image: *mut u8, list: *const u8, len: usize, baud: u32, practice: bool, origin: f64) -> u32;
+    fn jezynar_segment_send(image: *mut u8, piece: *const u8, len: usize, secs: f64, year: u32, month: u32, day: u32, hour: u32, minute: u32) -> u32;
+    fn jezynar_segment_receive(image: *mut u8, lent: *mut u8, len: usize) -> usize;
+    fn jezynar_segment_clear(image: *mut u8);
+    fn jezynar_segment_set_baud(image: *mut u8, baud: u32) -> u32;
+    fn jezynar_segment_search(
         image: *mut u8, secs: f64, year: u32, month: u32, day: u32, hour: u32, minute: u32, allowance: u32, entries: *mut u8, len: usize,
         summary: *mut u8,
     ) -> u32;
-    fn frame_parse(bytes: *const u8, len: usize, out: *mut u8) -> u32;
-    fn frame_encode(kind: u8, control: u8, address: u8, ci: u8, data: *const u8, data_len: usize, lent: *mut u8, lent_len: usize) -> u32;
+    fn jezynar_frame_parse(bytes: *const u8, len: usize, out: *mut u8) -> u32;
+    fn jezynar_frame_encode(kind: u8, control: u8, address: u8, ci: u8, data: *const u8, data_len: usize, lent: *mut u8, lent_len: usize) -> u32;
 }
 
 pub fn image_len() -> usize {
-    unsafe { segment_image_len() }
+    unsafe { jezynar_segment_image_len() }
 }
 
 /// An empty slice may have any pointer: null.
@@ -43,7 +43,7 @@ impl Library {
     /// A new segment over an image that held something else.
     pub fn new() -> Self {
         let mut library = Library { memory: [FILL; GUARD + IMAGE + GUARD] };
-        unsafe { segment_new(library.image()) };
+        unsafe { jezynar_segment_new(library.image()) };
         library
     }
 
@@ -54,7 +54,7 @@ impl Library {
     /// Whether the image is the one image of its segment.
     pub fn tidy(&self) -> bool {
         let mut copy = Library { memory: self.memory };
-        unsafe { segment_tidy(copy.image()) };
+        unsafe { jezynar_segment_tidy(copy.image()) };
         copy.memory == self.memory
     }
 
@@ -73,23 +73,23 @@ impl Side for Library {
             lent_out.last_mut().unwrap().as_mut_ptr()
         };
         let returned = match call {
-            Call::Open { list, baud, practice, origin } => unsafe { segment_open(image, start(list), list.len(), *baud, *practice, *origin) as u64 },
+            Call::Open { list, baud, practice, origin } => unsafe { jezynar_segment_open(image, start(list), list.len(), *baud, *practice, *origin) as u64 },
             Call::Send { piece, clock: c } => unsafe {
-                segment_send(image, start(piece), piece.len(), c.now, c.year, c.month, c.day, c.hour, c.minute) as u64
+                jezynar_segment_send(image, start(piece), piece.len(), c.now, c.year, c.month, c.day, c.hour, c.minute) as u64
             },
-            Call::Receive { lent } => unsafe { segment_receive(image, out(*lent), *lent) as u64 },
+            Call::Receive { lent } => unsafe { jezynar_segment_receive(image, out(*lent), *lent) as u64 },
             Call::Clear => {
-                unsafe { segment_clear(image) };
+                unsafe { jezynar_segment_clear(image) };
                 0
             }
-            Call::SetBaud { baud } => unsafe { segment_set_baud(image, *baud) as u64 },
+            Call::SetBaud { baud } => unsafe { jezynar_segment_set_baud(image, *baud) as u64 },
             Call::Search { clock: c, allowance, lent } => unsafe {
                 let (entries, summary) = (out(*lent), out(12));
-                segment_search(image, c.now, c.year, c.month, c.day, c.hour, c.minute, *allowance, entries, *lent, summary) as u64
+                jezynar_segment_search(image, c.now, c.year, c.month, c.day, c.hour, c.minute, *allowance, entries, *lent, summary) as u64
             },
-            Call::Parse { bytes } => unsafe { frame_parse(start(bytes), bytes.len(), out(16)) as u64 },
+            Call::Parse { bytes } => unsafe { jezynar_frame_parse(start(bytes), bytes.len(), out(16)) as u64 },
             Call::Encode { kind, control, address, ci, data, lent } => unsafe {
-                frame_encode(*kind, *control, *address, *ci, start(data), data.len(), out(*lent), *lent) as u64
+                jezynar_frame_encode(*kind, *control, *address, *ci, start(data), data.len(), out(*lent), *lent) as u64
             },
         };
         Answer { returned, lent: lent_out }

@@ -8,50 +8,50 @@ pub type Image = [u8; IMAGE];
 
 // As in include/jezynar.h.
 extern "C" {
-    fn segment_new(image: *mut u8);
-    fn segment_tidy(image: *mut u8);
-    fn segment_open(image: *mut u8, list: *const u8, len: usize, baud: u32, practice: bool, origin: f64) -> u32;
-    fn segment_send(image: *mut u8, piece: *const u8, len: usize, secs: f64, year: u32, month: u32, day: u32, hour: u32, minute: u32) -> u32;
-    fn segment_receive(image: *mut u8, lent: *mut u8, len: usize) -> usize;
-    fn segment_clear(image: *mut u8);
-    fn segment_set_baud(image: *mut u8, baud: u32) -> u32;
-    fn segment_search(
+    fn jezynar_segment_new(image: *mut u8);
+    fn jezynar_segment_tidy(image: *mut u8);
+    fn jezynar_segment_open(image: *mut u8, list: *const u8, len: usize, baud: u32, practice: bool, origin: f64) -> u32;
+    fn jezynar_segment_send(image: *mut u8, piece: *const u8, len: usize, secs: f64, year: u32, month: u32, day: u32, hour: u32, minute: u32) -> u32;
+    fn jezynar_segment_receive(image: *mut u8, lent: *mut u8, len: usize) -> usize;
+    fn jezynar_segment_clear(image: *mut u8);
+    fn jezynar_segment_set_baud(image: *mut u8, baud: u32) -> u32;
+    fn jezynar_segment_search(
         image: *mut u8, secs: f64, year: u32, month: u32, day: u32, hour: u32, minute: u32, allowance: u32, entries: *mut u8, len: usize,
         summary: *mut u8,
     ) -> u32;
 }
 
 pub fn new(image: &mut Image) {
-    unsafe { segment_new(image.as_mut_ptr()) }
+    unsafe { jezynar_segment_new(image.as_mut_ptr()) }
 }
 
 pub fn tidy(image: &mut Image) {
-    unsafe { segment_tidy(image.as_mut_ptr()) }
+    unsafe { jezynar_segment_tidy(image.as_mut_ptr()) }
 }
 
 /// At 2400 Bd, without the practice flag, origin 0.
 pub fn open(image: &mut Image, list: &[u8]) -> u32 {
-    unsafe { segment_open(image.as_mut_ptr(), list.as_ptr(), list.len(), 2400, false, 0.0) }
+    unsafe { jezynar_segment_open(image.as_mut_ptr(), list.as_ptr(), list.len(), 2400, false, 0.0) }
 }
 
 pub fn send(image: &mut Image, piece: &[u8], c: &Clock) -> u32 {
-    unsafe { segment_send(image.as_mut_ptr(), piece.as_ptr(), piece.len(), c.now, c.year, c.month, c.day, c.hour, c.minute) }
+    unsafe { jezynar_segment_send(image.as_mut_ptr(), piece.as_ptr(), piece.len(), c.now, c.year, c.month, c.day, c.hour, c.minute) }
 }
 
 pub fn receive(image: &mut Image, lent: &mut [u8]) -> usize {
-    unsafe { segment_receive(image.as_mut_ptr(), lent.as_mut_ptr(), lent.len()) }
+    unsafe { jezynar_segment_receive(image.as_mut_ptr(), lent.as_mut_ptr(), lent.len()) }
 }
 
 pub fn clear(image: &mut Image) {
-    unsafe { segment_clear(image.as_mut_ptr()) }
+    unsafe { jezynar_segment_clear(image.as_mut_ptr()) }
 }
 
 pub fn set_baud(image: &mut Image, baud: u32) -> u32 {
-    unsafe { segment_set_baud(image.as_mut_ptr(), baud) }
+    unsafe { jezynar_segment_set_baud(image.as_mut_ptr(), baud) }
 }
 
 /// With every probe allowed.
 pub fn search(image: &mut Image, c: &Clock, entries: &mut [u8; ENTRIES], summary: &mut [u8; SUMMARY]) -> u32 {
     let (entries, summary) = (entries.as_mut_ptr(), summary.as_mut_ptr());
-    unsafe { segment_search(image.as_mut_ptr(), c.now, c.year, c.month, c.day, c.hour, c.minute, u32::MAX, entries, ENTRIES, summary) }
+    unsafe { jezynar_segment_search(image.as_mut_ptr(), c.now, c.year, c.month, c.day, c.hour, c.minute, u32::MAX, entries, ENTRIES, summary) }
 }

@@ -40,7 +40,7 @@ fn taken<F: FnMut()>(mut call: F) -> usize {
 }
 
 fn show(name: &str, bytes: usize) {
-    println!("stack of segment_{name:<27} {bytes:>9} bytes   goal {GOAL}{}", if bytes > GOAL { "   over" } else { "" });
+    println!("stack of jezynar_segment_{name:<19} {bytes:>9} bytes   goal {GOAL}{}", if bytes > GOAL { "   over" } else { "" });
 }
 
 fn new() -> usize {

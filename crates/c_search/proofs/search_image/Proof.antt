@@ -4,15 +4,10 @@ use native.Mathlib.Omega.{arith}
 use lib.ListN.{length}
 use Rattle.list_open.specs.Opening.{mostMeters}
 use Rattle.laws.proofs.Sweep.{length-mapped}
-use Rattle.time_clock.specs.declared.Clock.{Clock}
 use Rattle.c_search.proofs.SearchLaws.{search-refused, search-made}
 use borrow.Author.Needs.{needs}
 use Rattle.c_search.proofs.search_image.Statement.{statement}
 use Rattle.c_search.proofs.search_image.Tie as tie
-
--- the clock of the call
-clock-of : tie.Start → Clock
-clock-of s = let a = s .args in record { now = a .secs; year = a .year; month = a .month; day = a .day; hour = a .hour; minute = a .minute }
 
 -- how many places the entries have
 long-entries : (c : tie.After-search-listed) → length (c .search-listed .result .entries) ≡ mostMeters
@@ -25,13 +20,12 @@ outcome-number-requires : tie.Need-outcome-number-requires
 outcome-number-requires c κs = search needs
 
 returns : tie.Need-returns
-unfolding clock-of
 returns c =
     let n = c .before in
     let f = n .before in
     let s = f .before .before .before in
     let a = s .args in
-    search-refused (clock-of s) (a .allowance) (a .entries .now) (a .image .now) _ (f .search-listed .result) (f .search-listed .ensures)
+    search-refused (a .clock) (a .allowance) (a .entries .now) (a .image .now) _ (f .search-listed .result) (f .search-listed .ensures)
     (n .outcome-number .result) (a .summary .now) (n .outcome-number .ensures) (omega (arith, c .if1 .taken))
 
 write-entries-requires : tie.Need-write-entries-requires
@@ -44,7 +38,6 @@ same-length : tie.Need-same-length
 same-length c = search needs
 
 returns-2 : tie.Need-returns-2
-unfolding clock-of
 returns-2 c =
     let p = c .before .before .before in
     let e = p .before .before .before in
@@ -52,7 +45,7 @@ returns-2 c =
     let f = n .before in
     let s = f .before .before .before in
     let a = s .args in
-    search-made (clock-of s) (a .allowance) (a .entries .now) (a .image .now) _ (f .search-listed .result) (f .search-listed .ensures)
+    search-made (a .clock) (a .allowance) (a .entries .now) (a .image .now) _ (f .search-listed .result) (f .search-listed .ensures)
     _ (a .summary .now) _ (sym (e .if1 .left) ∙ n .outcome-number .ensures) (long-entries f) (p .write-entries .ensures) (c .summary-of .ensures)
 
 pub search-image-spec : {M : Type 1} → statement M

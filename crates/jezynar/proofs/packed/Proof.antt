@@ -1,6 +1,7 @@
 -- `jezynar::packed` meets its contract.
 use native.Mathlib.Omega.{arith}
 use borrow.Author.Needs.{needs}
+use Rattle.jezynar.proofs.ImageLaws.{number-small}
 use Rattle.jezynar.proofs.packed.Statement.{statement}
 use Rattle.jezynar.proofs.packed.Tie as tie
 
@@ -13,14 +14,11 @@ refusal-number-requires c κs = search needs
 cast-result : tie.Need-cast-result
 cast-result c = search needs
 
-cast-result-2 : tie.Need-cast-result-2
-cast-result-2 c = search needs
-
 mul-result : tie.Need-mul-result
 mul-result c = search needs
 
 add-result : tie.Need-add-result
-add-result c = search needs
+add-result c = omega (arith, number-small (c .before .before .args .refusal), c .before .refusal-index .ensures, c .refusal-number .ensures)
 
 returns : tie.Need-returns
 returns c = omega (arith, c .before .refusal-index .ensures, c .refusal-number .ensures)
@@ -32,7 +30,6 @@ packed-spec =
     refusal-index-requires
     refusal-number-requires
     cast-result
-    cast-result-2
     mul-result
     add-result
     returns)

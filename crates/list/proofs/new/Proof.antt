@@ -1,5 +1,7 @@
--- `list::new` meets its contract: a walk of its MIR, by hand. A `Reader` is made of the slice passed and 3, in the result's local.
--- A `&[u8]` is Copy, so what it owns is had twice: once for list at exit, and once inside the result, beside the facts of at.
+-- `list::new` meets its contract: a walk of its MIR, by hand. A `Reader` is made of the slice passed and 3, in the
+-- result's local.
+-- A `&[u8]` is Copy, so what it owns is had twice: once for list at exit, and once inside the result, beside the
+-- facts of at.
 use mathlib.Core.Path.{refl}
 use Prim.Native.Nat.{ℕ}
 use mathlib.Core.List.{List, [], _∷_}

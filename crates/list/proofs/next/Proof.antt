@@ -1,4 +1,6 @@
--- `list::next` meets its contract: a walk of its MIR, by hand. The struct is taken apart, the covered `record_at` is called on the slice and the number, the covered `at_of` on the number and the step, and the result is put together: a struct that holds the reader past the step, and the step.
+-- `list::next` meets its contract: a walk of its MIR, by hand. The struct is taken apart, the covered `record_at` is
+-- called on the slice and the number, the covered `at_of` on the number and the step, and the result is put together:
+-- a struct that holds the reader past the step, and the step.
 use mathlib.Core.Path.{_≡_, refl, ap, subst, _∙_}
 use Prim.Native.Nat.{ℕ, _<_, _^_}
 use mathlib.Core.List.{[], _∷_, head-eq-of-cons-eq}
@@ -167,7 +169,8 @@ module _ {M : Type 1} (𝓤 : URA M) (H : Heap 𝓤) (A : Atoms 𝓤) (W : Given
       qed W ((‵ (flft κ q) ⊛ ‵ ftrue) ∷ ‵ Own ∷ []) ∵
       suffices ! _ (ends-at 𝓤 H A next.ended stayed (next.clauses 𝓤 H A mem run) W (((κ, tt), (q, tt), tt, (d, tt), (mach ∷ [], tt)), tt) rv (nextOf d) (tt, tt) (tt, tt)) $ says ! refl $
       frame ! $ use1 W (‵ Own ⊛ ‵ Own) (LL.copy D (T′.the-copy α) 𝓤 H A W .twice d (mach ∷ [])) $ split ! $ nothing ! $ move ! (1 ∷ 0 ∷ []) $ fjoin ! $ frame ! $
-      -- [what the struct owns]: the number's facts take the place of at's, and with the step's facts it is what the result owns
+      -- [what the struct owns]: the number's facts take the place of at's, and with the step's facts it is what the
+      -- result owns
       owned ! usize (Is usize) (uint-makes 𝓤 H A W w64) at′ _ (refl, fits) $ move ! (1 ∷ 0 ∷ []) $ use2 W (‵ (B (κ, tt) .own d′ (T′.lowered d′ ∷ []))) (own-put 𝓤 H A W D L 1 vd at′ mach) $
       nothing ! $ owned ! S.the-row (Is S.the-row) (EL.makes S.the-type S′.the-plain 𝓤 H A) found _ is-s $ fjoin ! $ move ! (1 ∷ 0 ∷ []) $ fjoin ! $ by ! (own-shut 𝓤 H A W (RD.the-type α) (RD′.the-laws α) (d′, (found, tt)))
 

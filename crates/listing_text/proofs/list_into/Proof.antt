@@ -17,9 +17,6 @@ open-list-requires c κs = search needs
 refusal-number-requires : tie.Need-refusal-number-requires
 refusal-number-requires c κs = search needs
 
-cast-refusal : tie.Need-cast-refusal
-cast-refusal c = search needs
-
 refusal-requires : tie.Need-refusal-requires
 refusal-requires c κs = search needs
 
@@ -55,7 +52,6 @@ list-into-spec =
     no-image-requires
     open-list-requires
     refusal-number-requires
-    cast-refusal
     refusal-requires
     returns
     clock-requires

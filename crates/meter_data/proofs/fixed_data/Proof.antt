@@ -49,11 +49,11 @@ add4-requires-4 c κs = tt
 returns : tie.Need-returns
 unfolding fixedData bcd idBytes
 returns c =
-    let id = c .before .before .before .before .before .before .before .before .before .before .args .m .id in
+    let id = c .before .before .before .before .before .before .before .before .before .before .args .m .built .id in
     fits (c .before .before .before .before .before .before .before .empty .ensures)
     (both (put-as (c .before .before .before .before .before .before .id-bytes .ensures ∙ sym (id-little id)) (c .before .before .before .before .before .add4 .ensures))
     (both (c .before .before .before .before .add42 .ensures)
-    (both (put-as (c .before .before .before .bcd4 .ensures ∙ ap (λ s. bcd 4 (12345 + c .before .before .before .before .before .before .before .before .before .before .args .m .seed + s / 60)) (c .before .before .before .before .before .before .before .before .whole-u64 .ensures)) (c .before .before .add43 .ensures))
+    (both (put-as (c .before .before .before .bcd4 .ensures ∙ ap (λ s. bcd 4 (12345 + c .before .before .before .before .before .before .before .before .before .before .args .m .built .seed + s / 60)) (c .before .before .before .before .before .before .before .before .whole-u64 .ensures)) (c .before .before .add43 .ensures))
     (put-as (c .before .bcd42 .ensures) (c .add44 .ensures)))))
     (lit≤ tt)
 

@@ -33,7 +33,7 @@ add6-requires c κs = tt
 returns : tie.Need-returns
 unfolding head little idBytes
 returns c =
-    let id = c .before .before .before .before .before .before .before .args .m .id in
+    let id = c .before .before .before .before .before .before .before .args .m .built .id in
     fits (c .before .before .before .before .before .before .empty .ensures)
     (both (put-as (c .before .before .before .before .before .id-bytes .ensures ∙ sym (id-little id)) (c .before .before .before .before .add4 .ensures))
     (both (put-as (c .before .before .le2 .ensures) (c .before .add2 .ensures)) (c .add6 .ensures)))

@@ -16,14 +16,14 @@ heat-first-requires c κs = tt
 
 returns : tie.Need-returns
 unfolding head clockF heatFirst heatSecond little idBytes typeG typeF
-returns c = rw (eq-eqb (c .before .before .before .args .m .part) 0 (c .before .if1 .taken)) (fits (c .before .before .head .ensures) (c .heat-first .ensures) (lit≤ tt))
+returns c = rw (eq-eqb (c .before .before .before .args .m .state .part) 0 (c .before .if1 .taken)) (fits (c .before .before .head .ensures) (c .heat-first .ensures) (lit≤ tt))
 
 heat-second-requires : tie.Need-heat-second-requires
 heat-second-requires c κs = tt
 
 returns-2 : tie.Need-returns-2
 unfolding head clockF heatFirst heatSecond little idBytes typeG typeF
-returns-2 c = rw (ne-eqb (c .before .before .before .args .m .part) 0 (c .before .if1 .left)) (fits (c .before .before .head .ensures) (c .heat-second .ensures) (lit≤ tt))
+returns-2 c = rw (ne-eqb (c .before .before .before .args .m .state .part) 0 (c .before .if1 .left)) (fits (c .before .before .head .ensures) (c .heat-second .ensures) (lit≤ tt))
 
 pub heat-data-spec : {M : Type 1} → statement M
 heat-data-spec =

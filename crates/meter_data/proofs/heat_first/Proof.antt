@@ -82,7 +82,7 @@ push-requires c κs = tt
 returns : tie.Need-returns
 unfolding heatFirst clockF little typeF typeG idBytes
 returns c =
-    let id = c .before .before .before .before .before .before .before .before .before .before .before .before .before .before .before .before .before .args .m .id in
+    let id = c .before .before .before .before .before .before .before .before .before .before .before .before .before .before .before .before .before .args .m .built .id in
     both (c .before .before .before .before .before .before .before .before .before .before .before .before .before .before .before .int4 .ensures)
     (both (c .before .before .before .before .before .before .before .before .before .before .before .before .before .before .int42 .ensures)
     (both (c .before .before .before .before .before .before .before .before .before .before .before .before .before .int43 .ensures)

@@ -9,11 +9,11 @@ response-requires : tie.Need-response-requires
 response-requires c κs = tt
 
 damage-requires : tie.Need-damage-requires
-damage-requires c κs = let a = c .before .args in rw (c .response .ensures) (response-long (a .elapsed) (a .clock) (plainMeter (a .m)))
+damage-requires c κs = let a = c .before .before .args in rw (c .response .ensures) (response-long (a .elapsed) (a .clock) (plainMeter (a .m)))
 
 returns : tie.Need-returns
 unfolding readout
-returns c = c .damage .ensures ∙ ap (damaged (c .before .before .args .m .fault)) (c .before .response .ensures)
+returns c = c .damage .ensures ∙ ap (damaged (c .before .before .before .args .m .built .fault)) (c .before .response .ensures)
 
 pub readout-spec : {M : Type 1} → statement M
 readout-spec = tie.close (tie.spec response-requires damage-requires returns)

@@ -25,10 +25,10 @@ telegram-requires c κs = tt
 returns-2 : tie.Need-returns-2
 unfolding response
 returns-2 c =
-    let m = c .before .before .before .before .args .m in
+    let m = c .before .before .before .before .before .args .m in
     let e = c .before .before .before .error-code .ensures in
-    rw (ne-eqb (error (m .fault) (m .readouts)) 0 (λ z. c .before .before .if1 .left (e ∙ z)))
-    (c .telegram .ensures ∙ ap (λ d. encode (long 0x08 (m .primary) 0x70 d)) (c .before .error-data .ensures ∙ ap (λ x. x ∷ []) e))
+    rw (ne-eqb (error (m .built .fault) (m .state .readouts)) 0 (λ z. c .before .before .if1 .left (e ∙ z)))
+    (c .telegram .ensures ∙ ap (λ d. encode (long 0x08 (m .state .primary) 0x70 d)) (c .before .error-data .ensures ∙ ap (λ x. x ∷ []) e))
 
 pub response-spec : {M : Type 1} → statement M
 response-spec =

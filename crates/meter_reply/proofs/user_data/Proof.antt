@@ -53,7 +53,7 @@ telegram-requires-4 c κs = tt
 returns : tie.Need-returns
 unfolding userData
 returns c =
-    let s = c .before .before .before .before .before .before .args in
+    let s = c .before .before .before .before .before .before .before .args in
     let m = plainMeter (s .m) in
     c .telegram .ensures
     ∙ ap encode (ap₂ (λ a d. long 0x08 a 0x72 d) (c .before .before .before .before .address-of .ensures) (c .before .heat-data .ensures ∙ ap (λ t. head m ++ heatNow t (s .clock) m) (c .before .before .before .before .before .whole-u32 .ensures)))
@@ -62,7 +62,7 @@ returns c =
 returns-2 : tie.Need-returns-2
 unfolding userData
 returns-2 c =
-    let s = c .before .before .before .before .before .before .args in
+    let s = c .before .before .before .before .before .before .before .args in
     let m = plainMeter (s .m) in
     c .telegram2 .ensures
     ∙ ap encode (ap₂ (λ a d. long 0x08 a 0x72 d) (c .before .before .before .before .address-of .ensures) (c .before .electricity-data .ensures ∙ ap (λ t. head m ++ electricity t m) (c .before .before .before .before .before .whole-u32 .ensures)))
@@ -71,7 +71,7 @@ returns-2 c =
 returns-3 : tie.Need-returns-3
 unfolding userData
 returns-3 c =
-    let s = c .before .before .before .before .before .before .args in
+    let s = c .before .before .before .before .before .before .before .args in
     let m = plainMeter (s .m) in
     c .telegram3 .ensures
     ∙ ap encode (ap₂ (λ a d. long 0x08 a 0x72 d) (c .before .before .before .before .address-of .ensures) (c .before .water-data .ensures ∙ ap (λ t. head m ++ water t (s .clock) m) (c .before .before .before .before .before .whole-u32 .ensures)))
@@ -80,10 +80,10 @@ returns-3 c =
 returns-4 : tie.Need-returns-4
 unfolding userData
 returns-4 c =
-    let s = c .before .before .before .before .before .before .args in
+    let s = c .before .before .before .before .before .before .before .args in
     let m = plainMeter (s .m) in
     c .telegram4 .ensures
-    ∙ ap encode (ap (long 0x08 (s .m .primary) 0x73) (c .before .fixed-data .ensures))
+    ∙ ap encode (ap (long 0x08 (s .m .state .primary) 0x73) (c .before .fixed-data .ensures))
     ∙ ap (λ o. encode (userData o (s .elapsed) (s .clock) m)) (sym (c .before .before .enum-told4 .given .1))
 
 pub user-data-spec : {M : Type 1} → statement M

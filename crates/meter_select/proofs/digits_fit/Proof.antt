@@ -19,7 +19,7 @@ returns c = rw (sym (c .before .before .before .wide .ensures), sym (c .before .
 
 returns-2 : tie.Need-returns-2
 unfolding alike
-returns-2 c = rw (sym (c .before .before .wide .ensures), sym (c .before .fits2 .ensures) ∙ c .if1 .left)
+returns-2 c = rw (sym (c .before .before .wide .ensures), sym (c .before .fits2 .ensures) ∙ c .if1 .left) (c .if1 .left)
 
 pub digits-fit-spec : {M : Type 1} → statement M
 digits-fit-spec =

@@ -1,5 +1,7 @@
--- A walk of the code by hand: an array of structs in a local, of which a part is lent to `search`, itself proved by hand. The image is passed on to `search` and given up (`gave-ref`): of it only its last value is kept.
--- The array is cut in front of the call, its first part is lent for a lifetime that is made there, and after the call the array is put together again (`LentPart`).
+-- A walk of the code by hand: an array of structs in a local, of which a part is lent to `search`, itself proved by
+-- hand. The image is passed on to `search` and given up (`gave-ref`): of it only its last value is kept.
+-- The array is cut in front of the call, its first part is lent for a lifetime that is made there, and after the call
+-- the array is put together again (`LentPart`).
 use mathlib.Core.Path.{_≡_, refl, sym, _∙_, subst}
 use Prim.Native.Nat.{ℕ, _≤_, _<_, _^_, min}
 use native.Mathlib.Omega.{arith}
@@ -167,7 +169,8 @@ module _ {M : Type 1} (𝓤 : URA M) (H : Heap 𝓤) (A : Atoms 𝓤) (W : Given
       Table found v₈ = ‵ (fat fullShare slice k₁ 0 (sliceVal (l₅, 0) n)) ∷ ‵ (fdies slice k₁) ∷ ‵ (fat fullShare whole k₀ 0 (vptr l₅ 0)) ∷ ‵ (fdies whole k₀) ∷ ‵ (fat fullShare lent-on l₉ 0 (vptr b o)) ∷ ‵ (fdies lent-on l₉)
           ∷ ‵ (fat fullShare array l₈ 0 v₈) ∷ ‵ (fdies array l₈) ∷ found ∷ ‵ (fdies O′.mir l₇) ∷ ‵ (fat fullShare word l₆ 0 (vint w64 n)) ∷ ‵ (fdies word l₆) ∷ ‵ (fdies array l₅) ∷ Front
 
-      -- [_5's cell; what the array owns; what the search's answer owns; the image's token; its last value; _11 5; _10 7; _9 9; _8 11; _7 13; _6 15; _5's end 17; _4 18; _3 20; _2 22; _1 24; _0 26]
+      -- [_5's cell; what the array owns; what the search's answer owns; the image's token; its last value; _11 5; _10
+      -- 7; _9 9; _8 11; _7 13; _6 15; _5's end 17; _4 18; _3 20; _2 22; _1 24; _0 26]
       finishes : (d : Searched) (dv : Val) (new : List ℕ) (zs : List EntryRecord) (v v₈ : Val) → length zs ≡ n → SearchesInto old t a (take n es) d zs new
           → Sq W (‵ (fat fullShare array l₅ 0 v) ∷ ‵ (recordsTy .own (zs ++ leave n es) (v ∷ [])) ∷ ‵ (O.the-row .own d (dv ∷ [])) ∷ ‵ (flft κ q) ∷ Last new ∷ Table (‵ (fat fullShare O′.mir l₇ 0 dv)) v₈)
           (runs (𝓣 .C) (𝓣 .Λ) En t-8 (atRet En Post))
@@ -206,7 +209,8 @@ module _ {M : Type 1} (𝓤 : URA M) (H : Heap 𝓤) (A : Atoms 𝓤) (W : Given
           split ! $ move ! (1 ∷ []) $ split ! $ move ! (1 ∷ []) $ split ! $ feqL ! (λ ez. heard ! (SearchesInto old t a (take n es) d zs new) (λ el.
           -- [the records' last; the image's last; the tokens with the answer; what is kept aside; _11 4; …]
           move ! (2 ∷ []) $ split ! $ split ! $ move ! (1 ∷ []) $ split ! $
-          -- [the new token; nothing; the image's token; the answer; the records' last; the image's last; what is kept aside; _11 7; …]
+          -- [the new token; nothing; the image's token; the answer; the records' last; the image's last; what is kept
+          -- aside; _11 7; …]
           move ! (0 ∷ 6 ∷ 4 ∷ []) $ take-part ! tt T.the-row tt mostMeters α γ′ l₅ n es zs all le (ez ∙ length-take-le n es within) (λ v′.
           -- [_5's cell; what the array owns; nothing; the image's token; the answer; the image's last; _11 6; …]
           move ! (2 ∷ []) $ drop ! $ move ! (3 ∷ []) $ peeks ! O.the-row (Is O.the-row) (shows 𝓤 H A O.the-row) d (u ∷ []) (λ is.
@@ -214,7 +218,8 @@ module _ {M : Type 1} (𝓤 : URA M) (H : Heap 𝓤) (A : Atoms 𝓤) (W : Given
           move ! (1 ∷ 2 ∷ 0 ∷ []) $ finishes d u new zs v′ v₈ (ez ∙ length-take-le n es within) el)))))))))
 
     -- ---- up to there
-    -- [the image's token; its reference; _11 2; _10 4; _9 6; _8 8; _7 10; _6 12; _5 14; _4 16; _3 18; _2 20; _1 22; _0 24]
+    -- [the image's token; its reference; _11 2; _10 4; _9 6; _8 8; _7 10; _6 12; _5 14; _4 16; _3 18; _2 20; _1 22;
+    -- _0 24]
     begins : Sq W (‵ (flft κ q) ∷ ‵ (MutRef (named 0) κ imageTy .own image (vptr b o ∷ []))
         ∷ ‵ (froom slice k₁ 0) ∷ ‵ (fdies slice k₁) ∷ ‵ (froom whole k₀ 0) ∷ ‵ (fdies whole k₀) ∷ ‵ (froom lent-on l₉ 0) ∷ ‵ (fdies lent-on l₉) ∷ ‵ (froom array l₈ 0) ∷ ‵ (fdies array l₈) ∷ ‵ (froom O′.mir l₇ 0) ∷ ‵ (fdies O′.mir l₇)
         ∷ ‵ (froom word l₆ 0) ∷ ‵ (fdies word l₆) ∷ ‵ (froom array l₅ 0) ∷ ‵ (fdies array l₅) ∷ Front)
@@ -224,7 +229,8 @@ module _ {M : Type 1} (𝓤 : URA M) (H : Heap 𝓤) (A : Atoms 𝓤) (W : Given
         calls-at ! fm (Blank 𝓤 H A mem run) known-blank (to-blank 𝓤 H A W mem run) (no-more !) (λ v.
         use1 W (later (some (λ (r : List EntryRecord). (‵ ftrue ⊛ ‵ (recordsTy .own r (v ∷ []))) ⊛ raw (ensured 𝓤 H A blank.ended (blank.clauses 𝓤 H A mem run) tt tt tt r)))) (id⊢ 𝓤 _) $ await ! tt $ pick ! (λ es.
         split ! $ move ! (1 ∷ []) $ drop ! $ split ! $ drop ! $
-        -- [what the array owns; the image's token; its reference; _11 3; _10 5; _9 7; _8 9; _7 11; _6 13; _5 15; _4 17; _3 19; _2 21; _1 23; _0 25]
+        -- [what the array owns; the image's token; its reference; _11 3; _10 5; _9 7; _8 9; _7 11; _6 13; _5 15; _4
+        -- 17; _3 19; _2 21; _1 23; _0 25]
         peeks ! recordsTy (Is recordsTy) (shows 𝓤 H A recordsTy) es (v ∷ []) (λ is.
         land ! (from ! (stop !)) (init ! 9 refl (array-lawful 𝓤 H A W T.the-row (LL.lawful T.the-type T′.the-laws 𝓤 H A W) mostMeters .typed es _ is .0)) $
         assigns ! (of-opd ! (load ! (from ! (stop !)) (look ! 9 refl))) (from ! (stop !)) (init ! 15 refl (array-lawful 𝓤 H A W T.the-row (LL.lawful T.the-type T′.the-laws 𝓤 H A W) mostMeters .typed es _ is .0)) $

@@ -1,4 +1,5 @@
--- `time_seconds::elapsed` meets its contract: a float of the format is above 0 just where `notBelow0` keeps it, or it is a zero, and +0 stands for it.
+-- `time_seconds::elapsed` meets its contract: a float of the format is above 0 just where `notBelow0` keeps it, or it
+-- is a zero, and +0 stands for it.
 use mathlib.Core.Path.{_≡_, refl, sym, ap}
 use mathlib.Core.Bool.{true, false, true≢false}
 use Prim.Native.Nat.{zero, suc, _*_, _^_, _≤_, _<_}

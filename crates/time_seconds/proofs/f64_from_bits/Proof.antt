@@ -1,4 +1,5 @@
--- `time_seconds::f64_from_bits` meets its contract. With the sign off, a NaN's pattern is a number above the infinity's (`nanBits-above`).
+-- `time_seconds::f64_from_bits` meets its contract. With the sign off, a NaN's pattern is a number above the
+-- infinity's (`nanBits-above`).
 use borrow.Author.Needs.{needs}
 use borrow.Author.Tests.{lt-ltb, le-ltb}
 use mathlib.Core.Path.{_≡_, refl, sym, ap, _∙_, subst}

@@ -1,4 +1,5 @@
--- `time_seconds::whole_u32` meets its contract: the whole seconds stopped at the last u64 and then at the last u32 are those stopped at the last u32.
+-- `time_seconds::whole_u32` meets its contract: the whole seconds stopped at the last u64 and then at the last u32
+-- are those stopped at the last u32.
 use borrow.Author.Needs.{needs}
 use mathlib.Core.Path.{_≡_, refl}
 use mathlib.Core.Bool.{true, false}

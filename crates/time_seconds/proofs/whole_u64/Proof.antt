@@ -1,4 +1,5 @@
--- `time_seconds::whole_u64` meets its contract. The time is the float of its own bit pattern, and `proofs/Trunc.antt` says the whole part of such a float by where the upper twelve bits lie.
+-- `time_seconds::whole_u64` meets its contract. The time is the float of its own bit pattern, and `proofs/Trunc.antt`
+-- says the whole part of such a float by where the upper twelve bits lie.
 use borrow.Author.Needs.{needs}
 use mathlib.Core.Path.{_≡_, refl, sym, ap, _∙_, subst}
 use mathlib.Core.Bool.{true, not}

@@ -4,7 +4,7 @@ use mathlib.Core.List.{_++_}
 use Prim.Native.Nat.{ℕ, _+_, _*_, _-_, _≤_}
 use native.Mathlib.Omega.{arith}
 use lib.ListN.{length, take, drop}
-use lib.Seq.{length-paste}
+use lib.Seq.{paste, length-paste}
 use borrow.Author.Needs.{needs}
 use Rattle.list_open.specs.Opening.{mostMeters}
 use Rattle.laws.proofs.Sweep.{length-mapped}
@@ -33,17 +33,18 @@ array-copy-out-e c = omega arith
 entry-bytes-requires : tie.Need-entry-bytes-requires Inv-loop μ-loop
 entry-bytes-requires c κs = search needs
 
-slice-aggregate-copy : tie.Need-slice-aggregate-copy Inv-loop μ-loop
-slice-aggregate-copy c = search needs
+mul-put : tie.Need-mul-put Inv-loop μ-loop
+mul-put c = omega arith
 
-mul-copy : tie.Need-mul-copy Inv-loop μ-loop
-mul-copy c = omega arith
+slice-aggregate-put : tie.Need-slice-aggregate-put Inv-loop μ-loop
+slice-aggregate-put c = search needs
 
-copy-requires : tie.Need-copy-requires Inv-loop μ-loop
-copy-requires c κs =
+put-requires : tie.Need-put-requires Inv-loop μ-loop
+put-requires c κs =
     let at = c .before .before .before .before .before .loop in
-    let h : 16 * at .i + 16 ≤ length (at .lent) = omega arith in
-    (search needs, h)
+    let b = c .before .before .entry-bytes .result in
+    let w : length b ≡ 16 = search needs in
+    omega arith
 
 add-i : tie.Need-add-i Inv-loop μ-loop
 add-i c = omega arith
@@ -58,7 +59,7 @@ loop-again c =
     let b = c .before .before .before .before .before .entry-bytes .result in
     let w : length b ≡ 16 = search needs in
     let h : 16 * at .i + 16 ≤ length (at .lent) = omega arith in
-    let e = c .before .before .copy .ensures in (
+    let e = c .before .before .put .ensures ∙ ap (paste (at .lent) (16 * at .i) b) w in (
       omega arith,
       inv .1,
       inv .2,
@@ -87,9 +88,9 @@ write-entries-spec =
     mul-e
     array-copy-out-e
     entry-bytes-requires
-    slice-aggregate-copy
-    mul-copy
-    copy-requires
+    mul-put
+    slice-aggregate-put
+    put-requires
     add-i
     loop-less
     loop-again

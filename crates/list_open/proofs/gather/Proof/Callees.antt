@@ -36,7 +36,8 @@ use denote.Exit.{yes}
 use denote.Triple.Clauses.{ensured, lasts}
 use Rattle.list_open.specs.Opening.{mostMeters}
 use Rattle.list.specs.ProgramReading.{nextOf}
-use Rattle.list_open.specs.ProgramGather.{spare, gatheredOf, gatheredIn, Brings}
+use Rattle.meter.specs.View.{blankMeter}
+use Rattle.list_open.specs.ProgramGather.{gatheredOf, gatheredIn, Brings}
 use Rattle.list.specs.declared.Reader.{Reader}
 use Rattle.list.specs.declared.Read.{Read}
 use Rattle.meter.specs.declared.Meter.{Meter}
@@ -98,8 +99,8 @@ module _ {M : Type 1} (𝓤 : URA M) (H : Heap 𝓤) (A : Atoms 𝓤) (W : Given
   pub asks-empty : ent 𝓤 (emp 𝓤) (Empty 𝓤 H A mem run .pre to-empty)
   asks-empty = qed W [] ∵ nothing ! $ nothing ! $ join ! $ frame ! $ done !
 
-  pub empty-said : (r : List Meter) → ent 𝓤 (ensured 𝓤 H A spares.ended (spares.clauses 𝓤 H A mem run) tt tt tt r) (fact 𝓤 (r ≡ replicate mostMeters spare))
-  empty-said r = exE 𝓤 _ (λ ws. snd∗ 𝓤 (sem 𝓤 H A (lasts spares.ended tt tt ws)) (fact 𝓤 (r ≡ replicate mostMeters spare)))
+  pub empty-said : (r : List Meter) → ent 𝓤 (ensured 𝓤 H A spares.ended (spares.clauses 𝓤 H A mem run) tt tt tt r) (fact 𝓤 (r ≡ replicate mostMeters blankMeter))
+  empty-said r = exE 𝓤 _ (λ ws. snd∗ 𝓤 (sem 𝓤 H A (lasts spares.ended tt tt ws)) (fact 𝓤 (r ≡ replicate mostMeters blankMeter)))
 
   abbrev pub to-finished : List Meter → List Val → Progress → Finished 𝓤 H A mem run .Ghost
   to-finished ms us g = ((tt, tt, tt, (ms, (g, tt)), (arrayVal us ∷ [], (gv g ∷ [], tt))), tt)

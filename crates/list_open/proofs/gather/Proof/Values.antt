@@ -1,4 +1,5 @@
--- The walk of `list_open::gather`: the machine values of what its locals hold, what their types say of them, and what the loop carries from turn to turn.
+-- The walk of `list_open::gather`: the machine values of what its locals hold, what their types say of them, and what
+-- the loop carries from turn to turn.
 use mathlib.Core.Path.{_≡_, refl, ap, subst, _∙_}
 use mathlib.Core.Bool.{Bool}
 use Prim.Native.Nat.{ℕ, _+_, _-_, _≤_, _<_, _^_}

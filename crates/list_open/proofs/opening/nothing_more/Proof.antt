@@ -4,11 +4,11 @@ use Rattle.list_open.proofs.BringLaws.{nothing-is}
 use Rattle.list_open.proofs.opening.nothing_more.Statement.{statement}
 use Rattle.list_open.proofs.opening.nothing_more.Tie as tie
 
-spare-meter-requires : tie.Need-spare-meter-requires
-spare-meter-requires c κs = search needs
+blank-meter-requires : tie.Need-blank-meter-requires
+blank-meter-requires c κs = search needs
 
 returns : tie.Need-returns
-returns c = nothing-is _ (c .spare-meter .ensures)
+returns c = nothing-is _ (c .blank-meter .ensures)
 
 pub nothing-more-spec : {M : Type 1} → statement M
-nothing-more-spec = tie.close (tie.spec spare-meter-requires returns)
+nothing-more-spec = tie.close (tie.spec blank-meter-requires returns)

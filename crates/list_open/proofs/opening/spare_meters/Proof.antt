@@ -7,11 +7,11 @@ use Rattle.meter.specs.declared.Meter.{Meter}
 use Rattle.list_open.proofs.opening.spare_meters.Statement.{statement}
 use Rattle.list_open.proofs.opening.spare_meters.Tie as tie
 
-spare-meter-requires : tie.Need-spare-meter-requires
-spare-meter-requires c κs = search needs
+blank-meter-requires : tie.Need-blank-meter-requires
+blank-meter-requires c κs = search needs
 
 returns : tie.Need-returns
-returns c = ap (λ (m : Meter). replicate mostMeters m) (c .spare-meter .ensures)
+returns c = ap (λ (m : Meter). replicate mostMeters m) (c .blank-meter .ensures)
 
 pub spare-meters-spec : {M : Type 1} → statement M
-spare-meters-spec = tie.close (tie.spec spare-meter-requires returns)
+spare-meters-spec = tie.close (tie.spec blank-meter-requires returns)

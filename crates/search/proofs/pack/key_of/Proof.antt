@@ -5,7 +5,7 @@ use Rattle.search.proofs.pack.key_of.Statement.{statement}
 use Rattle.search.proofs.pack.key_of.Tie as tie
 
 returns : tie.Need-returns
-returns c = sym (id-key (c .args .m .id) (search needs))
+returns c = sym (id-key (c .args .m .built .id) (search needs))
 
 pub key-of-spec : {M : Type 1} → statement M
 key-of-spec = tie.close (tie.spec returns)

@@ -44,15 +44,19 @@ add-result-3 c = omega arith
 returns : tie.Need-returns
 returns c =
     let b = c .before .before .before .before in
-    let s = b .before .before .before in (
-      mark-here (s .args .bus) (plainMeter (s .args .m)) (b .before .if1 .taken) _ _ _ (b .bit .ensures .0) (c .before .before .before .bit2 .ensures .0) (c .before .before .fault-bits .ensures .0),
-      meter-bounded (s .args .m) (search needs) (omega (arith, b .before .before .struct-known .given .1 .1 .1 .1 .1 .1 .1 .0)) (omega (arith, b .before .before .struct-known .given .1 .1 .1 .1 .1 .1 .1 .1 .1 .1 .1 .1 .0)),
+    let k = b .before .before .before in
+    let m = k .before .args .m in
+    let state = k .struct-known .given .1 .0 in (
+      mark-here (k .before .args .bus) (plainMeter m) (b .before .before .if1 .taken) _ _ _ (b .bit .ensures .0) (c .before .before .before .bit2 .ensures .0) (c .before .before .fault-bits .ensures .0),
+      meter-bounded m (search needs) (omega (arith, state .1 .0)) (omega (arith, state .1 .1 .1 .1 .1 .0)),
     )
 
 returns-2 : tie.Need-returns-2
 returns-2 c =
-    let s = c .before .before in
-    (mark-away (s .args .bus) (plainMeter (s .args .m)) (c .if1 .left), meter-bounded (s .args .m) (search needs) (search needs) (search needs))
+    let k = c .before in
+    let m = k .before .args .m in
+    let state = k .struct-known .given .1 .0 in
+    (mark-away (k .before .args .bus) (plainMeter m) (c .if1 .left), meter-bounded m (search needs) (search needs) (omega (arith, state .1 .1 .1 .1 .1 .0)))
 
 pub mark-of-spec : {M : Type 1} → statement M
 mark-of-spec =

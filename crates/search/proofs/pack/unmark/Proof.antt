@@ -9,15 +9,15 @@ last-in-requires c κs = search needs
 part-in-requires : tie.Need-part-in-requires
 part-in-requires c κs = search needs
 
-cast-t14 : tie.Need-cast-t14
-cast-t14 c = search needs
+cast-t15 : tie.Need-cast-t15
+cast-t15 c = search needs
 
-cast-t19 : tie.Need-cast-t19
-cast-t19 c = search needs
+cast-t20 : tie.Need-cast-t20
+cast-t20 c = search needs
 
 returns : tie.Need-returns
 returns c =
-    let l = c .before .before in
+    let l = c .before .before .before .before in
     let s = l .before .before in
     unmark-here (s .args .bus) (s .args .mark) (s .args .m) _ _ (l .if1 .taken) (c .before .last-in .ensures) (c .part-in .ensures)
 
@@ -26,4 +26,4 @@ returns-2 c = unmark-away (c .before .before .args .bus) (c .before .before .arg
 
 pub unmark-spec : {M : Type 1} → statement M
 unmark-spec =
-    tie.close (tie.spec last-in-requires part-in-requires cast-t14 cast-t19 returns returns-2)
+    tie.close (tie.spec last-in-requires part-in-requires cast-t15 cast-t20 returns returns-2)

@@ -27,8 +27,11 @@ returns : tie.Need-returns
 unfolding readMark
 returns c = simp (eq-eqb _ _ (sym (c .before .before .yes-of .ensures .0) ∙ c .if1 .taken), c .before .hears-of .ensures .0)
 
-add-access : tie.Need-add-access
-add-access c = search needs
+cast-wrapping-add-u8 : tie.Need-cast-wrapping-add-u8
+cast-wrapping-add-u8 c = search needs
+
+wrapping-add-u8-requires : tie.Need-wrapping-add-u8-requires
+wrapping-add-u8-requires c κs = search needs
 
 mul-result-3 : tie.Need-mul-result-3
 mul-result-3 c = search needs
@@ -54,6 +57,9 @@ mul-result-5 c = search needs
 add-result-6 : tie.Need-add-result-6
 add-result-6 c = search needs
 
+cast-result : tie.Need-cast-result
+cast-result c = search needs
+
 mul-result-6 : tie.Need-mul-result-6
 mul-result-6 c = search needs
 
@@ -62,7 +68,9 @@ add-result-7 c = search needs
 
 returns-2 : tie.Need-returns-2
 unfolding readMark
-returns-2 c = simp (ne-eqb _ _ (λ e. c .before .if1 .left (c .before .before .before .yes-of .ensures .0 ∙ e)), c .before .before .hears-of .ensures .0, c .readouts .ensures)
+returns-2 c =
+    let w = c .before in
+    simp (ne-eqb _ _ (λ e. w .before .if1 .left (w .before .before .before .yes-of .ensures .0 ∙ e)), w .before .before .hears-of .ensures .0, w .wrapping-add-u8 .ensures, c .readouts .ensures)
 
 pub read-mark-spec : {M : Type 1} → statement M
 read-mark-spec =
@@ -75,7 +83,8 @@ read-mark-spec =
     add-result
     add-result-2
     returns
-    add-access
+    cast-wrapping-add-u8
+    wrapping-add-u8-requires
     mul-result-3
     add-result-3
     mul-result-4
@@ -84,6 +93,7 @@ read-mark-spec =
     readouts-requires
     mul-result-5
     add-result-6
+    cast-result
     mul-result-6
     add-result-7
     returns-2)

@@ -66,7 +66,7 @@ probe-add-with-entry : (t : ℕ) → probe-lts.Need-add-with-entry (probe-calls 
 probe-add-with-entry t c = omega arith
 
 probe-with-entry-requires : (t : ℕ) → probe-lts.Need-with-entry-requires (probe-calls t) (probe-at t) probe.Post
-probe-with-entry-requires t c κs = c .before .before .before .before .probe-and-read .ensures .1 .entries
+probe-with-entry-requires t c κs = let w = c .before .before .before .before .probe-and-read .ensures .1 in (w .entries, w .fits)
 
 probe-returns-2 : (t : ℕ) → probe-lts.Need-returns-2 (probe-calls t) (probe-at t) probe.Post
 unfolding onceOf viewOf
@@ -77,7 +77,7 @@ probe-returns-2 t c =
           ∙ walk-many (now (s .args .keys)) (s .args .allowance) (s .args .low) (viewOf (s .args .w) (now (s .args .marks)) (now (s .args .entries))) _ (s .args .unknown)
           (o .probe-and-read .ensures .0 ∙ ap (λ p. packedOnce (now (s .args .keys)) (s .args .allowance) (s .args .low) (s .args .low + p) (viewOf (s .args .w) (now (s .args .marks)) (now (s .args .entries)))) (s .pre .1 .1))
           (c .before .before .before .if1 .left) (c .before .before .if2 .taken),
-      record { keys = s .pre .1 .0 .keys; marks = o .probe-and-read .ensures .1 .marks; entries = c .with-entry .ensures .room },
+      record { fits = c .with-entry .ensures .fits; keys = s .pre .1 .0 .keys; marks = o .probe-and-read .ensures .1 .marks; entries = c .with-entry .ensures .room },
     )
 
 probe-sub-row : (t : ℕ) → probe-lts.Need-sub-row (probe-calls t) (probe-at t) probe.Post
@@ -105,7 +105,7 @@ probe-returns-3 t c =
 
 abbrev row-Inv-loop : row-lts.InvT-loop
 row-Inv-loop below allowance low span keys marks₀ entries₀ q₀ l₀ digit₀ marks entries q l digit =
-    (digit ≤ 10) × Whole keys marks entries × (span ≡ spanOf below)
+    (digit ≤ 10) × Whole (q .found) keys marks entries × (span ≡ spanOf below)
     × (l + steps (10 - digit) (span + 1) + 6 * span + 5 < 0x100000000)
     × (packedRow (packedWalk keys allowance below) (span + 1) (10 - digit) l (viewOf q marks entries) ≡ packedRow (packedWalk keys allowance below) (span + 1) 10 low (viewOf q₀ marks₀ entries₀))
 

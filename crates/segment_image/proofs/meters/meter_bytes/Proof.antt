@@ -19,23 +19,23 @@ four-bytes-requires-2 c κs = search needs
 four-bytes-requires-3 : tie.Need-four-bytes-requires-3
 four-bytes-requires-3 c κs = search needs
 
-array-read-t13 : tie.Need-array-read-t13
-array-read-t13 c = search needs
+array-read-t15 : tie.Need-array-read-t15
+array-read-t15 c = search needs
 
-array-read-t16 : tie.Need-array-read-t16
-array-read-t16 c = search needs
+array-read-t18 : tie.Need-array-read-t18
+array-read-t18 c = search needs
 
-array-read-t19 : tie.Need-array-read-t19
-array-read-t19 c = search needs
+array-read-t21 : tie.Need-array-read-t21
+array-read-t21 c = search needs
 
-array-read-t22 : tie.Need-array-read-t22
-array-read-t22 c = search needs
+array-read-t24 : tie.Need-array-read-t24
+array-read-t24 c = search needs
 
-array-read-t25 : tie.Need-array-read-t25
-array-read-t25 c = search needs
+array-read-t27 : tie.Need-array-read-t27
+array-read-t27 c = search needs
 
-array-read-t28 : tie.Need-array-read-t28
-array-read-t28 c = search needs
+array-read-t30 : tie.Need-array-read-t30
+array-read-t30 c = search needs
 
 model-byte-requires : tie.Need-model-byte-requires
 model-byte-requires c κs = search needs
@@ -43,17 +43,17 @@ model-byte-requires c κs = search needs
 fault-byte-requires : tie.Need-fault-byte-requires
 fault-byte-requires c κs = search needs
 
-array-read-t33 : tie.Need-array-read-t33
-array-read-t33 c = search needs
+array-read-t35 : tie.Need-array-read-t35
+array-read-t35 c = search needs
 
-array-read-t36 : tie.Need-array-read-t36
-array-read-t36 c = search needs
+array-read-t38 : tie.Need-array-read-t38
+array-read-t38 c = search needs
 
-array-read-t39 : tie.Need-array-read-t39
-array-read-t39 c = search needs
+array-read-t41 : tie.Need-array-read-t41
+array-read-t41 c = search needs
 
-array-read-t42 : tie.Need-array-read-t42
-array-read-t42 c = search needs
+array-read-t44 : tie.Need-array-read-t44
+array-read-t44 c = search needs
 
 flag-byte-requires : tie.Need-flag-byte-requires
 flag-byte-requires c κs = search needs
@@ -61,17 +61,17 @@ flag-byte-requires c κs = search needs
 last-byte-requires : tie.Need-last-byte-requires
 last-byte-requires c κs = search needs
 
-array-read-t47 : tie.Need-array-read-t47
-array-read-t47 c = search needs
+array-read-t49 : tie.Need-array-read-t49
+array-read-t49 c = search needs
 
-array-read-t50 : tie.Need-array-read-t50
-array-read-t50 c = search needs
+array-read-t52 : tie.Need-array-read-t52
+array-read-t52 c = search needs
 
-array-read-t53 : tie.Need-array-read-t53
-array-read-t53 c = search needs
+array-read-t55 : tie.Need-array-read-t55
+array-read-t55 c = search needs
 
-array-read-t56 : tie.Need-array-read-t56
-array-read-t56 c = search needs
+array-read-t58 : tie.Need-array-read-t58
+array-read-t58 c = search needs
 
 flag-byte-requires-2 : tie.Need-flag-byte-requires-2
 flag-byte-requires-2 c κs = search needs
@@ -80,7 +80,7 @@ returns : tie.Need-returns
 unfolding number
 returns c =
     let b = c .before .before .before .before .before in
-    let m = b .before .before .before .before .args .m in
+    let m = b .before .before .before .before .before .before .args .m in
     let id = b .before .before .before .four-bytes .ensures in
     let manufacturer = b .before .before .two-bytes .ensures in
     let baud = b .before .four-bytes2 .ensures in
@@ -92,9 +92,9 @@ returns c =
     let hearing = c .flag-byte2 .ensures in (
       bytes-are m _ _ _ _ _ _ _ _ _ (id .0) (manufacturer .0) (baud .0) (seed .0) model fault selected last hearing,
       meter-is _ m refl (id .1) (manufacturer .1) refl refl
-          (ap modelBy model ∙ model-back (m .model)) (ap faultBy fault ∙ fault-back (m .fault)) refl (baud .1)
-          (ap flagBy selected ∙ flag-back (m .selected)) refl (ap lastBy last ∙ last-back (m .last)) refl (seed .1)
-          (ap flagBy hearing ∙ flag-back (m .hearing)),
+          (ap modelBy model ∙ model-back (m .built .model)) (ap faultBy fault ∙ fault-back (m .built .fault)) refl (baud .1)
+          (ap flagBy selected ∙ flag-back (m .state .selected)) refl (ap lastBy last ∙ last-back (m .state .last)) refl (seed .1)
+          (ap flagBy hearing ∙ flag-back (m .state .hearing)),
     )
 
 pub meter-bytes-spec : {M : Type 1} → statement M
@@ -105,23 +105,23 @@ meter-bytes-spec =
     two-bytes-requires
     four-bytes-requires-2
     four-bytes-requires-3
-    array-read-t13
-    array-read-t16
-    array-read-t19
-    array-read-t22
-    array-read-t25
-    array-read-t28
+    array-read-t15
+    array-read-t18
+    array-read-t21
+    array-read-t24
+    array-read-t27
+    array-read-t30
     model-byte-requires
     fault-byte-requires
-    array-read-t33
-    array-read-t36
-    array-read-t39
-    array-read-t42
+    array-read-t35
+    array-read-t38
+    array-read-t41
+    array-read-t44
     flag-byte-requires
     last-byte-requires
-    array-read-t47
-    array-read-t50
-    array-read-t53
-    array-read-t56
+    array-read-t49
+    array-read-t52
+    array-read-t55
+    array-read-t58
     flag-byte-requires-2
     returns)

@@ -1,0 +1,162 @@
+//! The entry points on images that the rest of the crate never has: those that are not the one image of their segment, and any bytes.
+#![allow(clippy::unwrap_used, clippy::indexing_slicing)]
+
+use super::*;
+use crate::list::{self, Medium, MeterSpec};
+
+type Image = [u8; IMAGE];
+
+const CLOCK: Clock = Clock { secs: 9.5, year: 2026, month: 10, day: 1, hour: 0, minute: 0 };
+/// SND_NKE to every meter, then REQ_UD2 to every meter.
+const TELEGRAMS: [u8; 10] = [0x10, 0x40, 0xFE, 0x3E, 0x16, 0x10, 0x5B, 0xFE, 0x59, 0x16];
+
+/// The archive that is linked has the images that this crate lends.
+#[test]
+fn the_image_has_the_librarys_length() {
+    // SAFETY: the call takes nothing.
+    assert_eq!(unsafe { c::jezynar_segment_image_len() }, IMAGE);
+}
+
+fn meters() -> Vec<u8> {
+    let heat = MeterSpec::new(1, "12345678", "KAM", Medium::Heat);
+    let water = MeterSpec::new(2, "12345699", "SEN", Medium::Water);
+    list::write(&[heat, water, MeterSpec { baud: Some(300), ..water }]).unwrap()
+}
+
+/// A call, which gives the number of its refusal and what was lent, as it is after the call.
+type Call = fn(&mut Image) -> (u32, Vec<u8>);
+
+const NEVER_REFUSED: (u32, Vec<u8>) = (0, Vec::new());
+
+fn receives(image: &mut Image, lent: usize) -> (u32, Vec<u8>) {
+    let mut bytes = vec![0xAA; lent];
+    let count = receive(image, &mut bytes);
+    bytes.truncate(count);
+    (0, bytes)
+}
+
+fn searches(image: &mut Image, allowance: u32, lent: usize) -> (u32, Vec<u8>) {
+    let (mut entries, mut summary) = (vec![[0xAA; ENTRY]; lent], [0xAA; SUMMARY]);
+    let number = search(image, &CLOCK, allowance, &mut entries, &mut summary);
+    (number, [entries.as_flattened(), &summary].concat())
+}
+
+/// These write the image whole.
+const WHOLE: [Call; 3] = [
+    |image| {
+        new(image);
+        NEVER_REFUSED
+    },
+    |image| {
+        tidy(image);
+        NEVER_REFUSED
+    },
+    |image| (open(image, &meters(), 9600, true, f64::NAN), vec![]),
+];
+
+const OTHERS: [Call; 15] = [
+    |image| {
+        clear(image);
+        NEVER_REFUSED
+    },
+    |image| receives(image, 0),
+    |image| receives(image, 5),
+    |image| receives(image, 40),
+    |image| (set_baud(image, 300), vec![]),
+    |image| (set_baud(image, 301), vec![]),
+    |image| (send(image, &[], &CLOCK), vec![]),
+    |image| (send(image, &TELEGRAMS, &CLOCK), vec![]),
+    |image| (send(image, &TELEGRAMS[..3], &CLOCK), vec![]),
+    |image| (send(image, &[0x68; 1024], &CLOCK), vec![]),
+    |image| (send(image, &[0x68; 1025], &CLOCK), vec![]),
+    |image| searches(image, u32::MAX, 64),
+    |image| searches(image, 5, 3),
+    |image| searches(image, 5, 2),
+    |image| (open(image, &[1, 0, 1], 2400, false, 0.0), vec![]),
+];
+
+/// The images of segments with nothing, with meters, and with a queue and waiting input as well.
+fn images() -> [Image; 3] {
+    let mut empty = [0xAA; IMAGE];
+    new(&mut empty);
+    let mut opened = empty;
+    assert_eq!(open(&mut opened, &meters(), 2400, false, f64::NAN), 0);
+    let mut busy = opened;
+    assert_eq!(send(&mut busy, &[&TELEGRAMS[..], &[0x68, 0x03, 0x03]].concat(), &CLOCK), 0);
+    [empty, opened, busy]
+}
+
+fn tidied(image: &Image) -> Image {
+    let mut copy = *image;
+    tidy(&mut copy);
+    copy
+}
+
+/// Another image of the same segment: every byte is changed that, changed alone, does not change the segment.
+fn other_image(image: &Image, change: u8) -> Image {
+    let mut other = *image;
+    for (k, byte) in other.iter_mut().enumerate() {
+        let mut copy = *image;
+        copy[k] ^= change;
+        if tidied(&copy) == *image {
+            *byte = copy[k];
+        }
+    }
+    other
+}
+
+/// A call answers the same on another image of a segment, and leaves an image of the same segment: that image itself
+/// where it is refused, the one image where it writes it whole. The one image of a segment stays so.
+#[test]
+fn calls_on_another_image_of_a_segment() {
+    for image in images() {
+        assert!(tidied(&image) == image);
+        for change in [0xFF, 0x01, 0x40] {
+            let other = other_image(&image, change);
+            assert!(other.iter().zip(&image).filter(|(a, b)| a != b).count() > 5_000);
+            for (k, call) in WHOLE.iter().chain(&OTHERS).enumerate() {
+                let (mut a, mut b) = (other, image);
+                let answer = call(&mut a);
+                assert_eq!(answer, call(&mut b), "call {k}");
+                assert!(tidied(&a) == b && tidied(&b) == b, "call {k}");
+                assert!(answer.0 == 0 || a == other, "call {k}, refused");
+                assert!(k >= WHOLE.len() || a == b, "call {k}, which writes the image whole");
+            }
+        }
+    }
+}
+
+/// The same on bytes that nobody wrote as an image, with counts past their limits, flags over 1 and a NaN of any pattern among
+/// them.
+#[test]
+fn calls_on_any_bytes() {
+    let alike = [0x00, 0x01, 0x02, 0x3F, 0x40, 0x7F, 0x80, 0xFF].map(|byte| [byte; IMAGE]);
+    let mut state = 0x9E37_79B9_7F4A_7C15u64;
+    let mut random = || {
+        [0; IMAGE].map(|_: u8| {
+            state ^= state << 13;
+            state ^= state >> 7;
+            state ^= state << 17;
+            (state >> 32) as u8
+        })
+    };
+    let mut images = alike.to_vec();
+    for _ in 0..40 {
+        let mut image = random();
+        images.push(image);
+        // Few meters, little input and a short queue, so that calls are accepted too.
+        let counts = [image[12] % 9, 0, image[14] % 4, 0, image[16] % 64, 0];
+        image[12..18].copy_from_slice(&counts);
+        images.push(image);
+    }
+    for image in images {
+        for (k, call) in WHOLE.iter().chain(&OTHERS).enumerate() {
+            let (mut a, mut b) = (image, tidied(&image));
+            let answer = call(&mut a);
+            assert_eq!(answer, call(&mut b), "call {k}");
+            assert!(tidied(&a) == b && tidied(&b) == b, "call {k}");
+            assert!(answer.0 == 0 || a == image, "call {k}, refused");
+            assert!(k >= WHOLE.len() || a == b, "call {k}, which writes the image whole");
+        }
+    }
+}
