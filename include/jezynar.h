@@ -12,8 +12,9 @@
  * that is written, overlap no other memory of the same call. An empty slice may have any pointer. A thread with 64 KiB
  * of stack is enough for every call. Calls on different images may run at once.
  *
- * A call that can be refused answers 0, or the number of its refusal (enum jezynar_refusal). A refused call leaves
- * every byte of the image and of the buffers unchanged. Every value of the arguments is taken.
+ * A call that can be refused answers 0, or the number of its refusal (enum jezynar_refusal); an opening and the
+ * telegram writer answer more than the number, as is said there. A refused call leaves every byte of the image and of
+ * the buffers unchanged. Every value of the arguments is taken.
  *
  * The clock of a send or a search: secs, the seconds of the instant, on one scale with the origin of the opening (the
  * meters' values grow with secs - origin; seconds since 1970 for both will do); and the date and time that meters

@@ -105,7 +105,7 @@ pub enum Fault {
     Truncated,
     /// Asked for its data, it says that it is busy.
     Busy,
-    /// The address in its data telegrams is one too high.
+    /// The address in its data telegrams is one too high, 0 after 255; not in those of `HeatOld`.
     WrongAddress,
     /// It hears every second telegram.
     Flaky,

@@ -1,5 +1,5 @@
--- What demand 3 claims of one search. calls/specs/Demand says it of the program's own routines, after every list of
--- calls.
+-- What demand 3 claims of one search. theorem_calls/specs/Demand3 says it of the program's own routines, in every list
+-- of calls.
 use mathlib.Core.Path.{_≡_}
 use mathlib.Core.Bool.{true}
 use mathlib.Core.List.{List, _++_, map}

@@ -1,6 +1,5 @@
--- The walk over packed meters, in the steps of 01's walk (walk, specs/Walk.antt); a name's R stands for "over packed
--- meters". That it finds what 01's walk finds is proved
--- (search, proofs/PackedWalk).
+-- The walk over packed meters, in the steps of 01's walk (search_walk, specs/Walk.antt). That it finds what 01's walk
+-- finds is proved (search, proofs/PackedWalk).
 -- An entry is one number: the id with the E5 counted in front of it (one: 1), or a mute's mask, F for unknown, with
 -- 0; in front is what is above 2^32.
 use mathlib.Core.Path.{_≡_}

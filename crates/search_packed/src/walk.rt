@@ -24,8 +24,8 @@ pub struct Probed {
     pub many: u32,
 }
 
-// One entry more. There is always room for it: entries are never more than meters (walk, proofs/Fits.antt,
-// `walk-fits-meters`).
+// One entry more. There is always room for it: entries are never more than meters (search_walk,
+// proofs/Fits.antt, `walk-fits-meters`).
 fn with_entry(w: Walk, e: u64, entries: &mut [u64; METERS]) -> Walk
     requires { ⌜ (length (now entries) ≡ capacity) × (w .found ≤ capacity) ⌝ }
     ensures { λ r. ⌜ Noted w (now (entries .entry)) e r (now (entries .exit)) ⌝ }

@@ -4,7 +4,7 @@
 --                                  `storeM`
 --     lend-cells, cells-back       the values are lent as a `&mut [T]` for a call, and are there again after it, as
 --                                  the function left them
---     share-cells                  the values are lent as a `&[T]`
+--     share-cells, shared-back     the values are lent as a `&[T]`, and are there again as they were
 --     holds                        the memory `holding σ xs` has the values xs in its last block
 --     loads                        the machine loads the values that a block has
 -- Assumes a `Model`, and `Given`.
@@ -22,7 +22,7 @@ use mir.Syntax.{Ty, named, tyArray}
 use mir.Val.{Val, vstruct, ofList, hasTy, WT}
 use mir.Raw.{raw as rawTy}
 use base.Logic.{SProp, ent, sep, emp, ex, upd, guard, Sat·exists, id⊢, via, monoL, monoR, mono∗, exI, ex∗, assoc∗, assoc′, fst∗, snd∗, guardE, guardI, upd-mono, upd-frame}
-use base.Fml.{GName, feq, fat, fsep, flft, flent}
+use base.Fml.{Fml, GName, feq, fat, fsep, flft, flent}
 use prog.Memory.{Memory, size, loadM, storeM, allocM}
 use prog.Wp.{Heap}
 use prog.Model.{Model, elems}
@@ -31,7 +31,7 @@ use Rattle.theorem_calls.specs.Lent.{stored, values, arrayTy, holding, L
 use contract.Adequate.{Satisfies, sat-weaken, sat-upd, sat-fact}
 use ghost.Atoms.{Atoms, sem}
 use types.Kit.{Given, ‵, _⊛_, some, later, _$_, _∵_, !, qed, by, move, keep, use1, use3, split, join, pick, rewrite, fsplit, fjoin, feqI, fpick, fpack, suffices, frame, await, updating, now as at-once, done}
-use types.Tokens.{lft-new, lft-end}
+use types.Tokens.{lft-new, lft-end, lent-back}
 use types.SemTy.{cells, Arr}
 use denote.RattleType.{RattleType}
 use denote.Array.{each, arrayVal, array-typed}
@@ -41,7 +41,7 @@ use denote.Memory.{rawAll, lone, cellRaw, partAt, partOf, mem, shares}
 use denote.Slice.{MutSlice, ShrSlice, sliceVal, Room, finally}
 use denote.Steps.{owned, peeks}
 use denote.Lend.{lends-slice, lends-shr-slice, slice-back, Held}
-use denote.Index.{row, whole-out}
+use denote.Index.{row, whole-out, whole-in}
 use types.Share.{arr-parts}
 
 module _ {M : Type 1} (𝓤 : URA M) (H : Heap 𝓤) (𝓜 : Model 𝓤 H) where
@@ -92,18 +92,29 @@ module _ {M : Type 1} (𝓤 : URA M) (H : Heap 𝓤) (A : Atoms 𝓤) (W : Given
       move ! (2 ∷ 0 ∷ 1 ∷ []) $ join ! $ frame ! $ keep ! (0 ∷ []) $ done !))
 
   -- the same as a `&[T]`
+  abbrev pub Parts : ℕ → List (R .Denot) → Fml
+  Parts b xs = arr-parts (shares R) (length xs) .part fullShare xs b 0
+
   abbrev pub SharedOf : ℕ → List (R .Denot) → ℕ → GName → SProp 𝓤
-  SharedOf b xs α γ = sep 𝓤 (A .lft (α ∷ []) fullShare) (sem 𝓤 H A (ShrSlice (named 0) (α ∷ []) R .own (record { ptr = (b, 0); name = γ; now = xs }) (sliceVal (b, 0) (length xs) ∷ [])))
+  SharedOf b xs α γ =
+      sep 𝓤
+      (sep 𝓤 (A .lft (α ∷ []) fullShare) (sem 𝓤 H A (ShrSlice (named 0) (α ∷ []) R .own (record { ptr = (b, 0); name = γ; now = xs }) (sliceVal (b, 0) (length xs) ∷ []))))
+      (A .lent (α ∷ []) (Parts b xs))
 
   pub share-cells : (b : ℕ) (xs : List (R .Denot)) → Room R (length xs) → ent 𝓤 (sem 𝓤 H A (cells (mem R) xs b 0)) (H .⇛ (ex 𝓤 (λ (α : ℕ). ex 𝓤 (SharedOf b xs α))))
   share-cells b xs room =
       qed W (‵ (cells (mem R) xs b 0) ∷ []) ∵ updating ! $ use1 W (‵ (row R fullShare xs b 0)) (whole-out 𝓤 H A W R xs b 0) $ feqI ! ℕ (length xs) (length xs) refl $ fjoin ! $
       lft-new ! tt (λ α. move ! (1 ∷ []) $
-      use1 W (later (some (λ (γ : GName). ‵ (ShrSlice (named 0) (α ∷ []) R .own (record { ptr = (b, 0); name = γ; now = xs }) (sliceVal (b, 0) (length xs) ∷ [])) ⊛ ‵ (flent (α ∷ []) (arr-parts (shares R) (length xs) .part fullShare xs b 0)))))
+      use1 W (later (some (λ (γ : GName). ‵ (ShrSlice (named 0) (α ∷ []) R .own (record { ptr = (b, 0); name = γ; now = xs }) (sliceVal (b, 0) (length xs) ∷ [])) ⊛ ‵ (flent (α ∷ []) (Parts b xs)))))
       (lends-shr-slice 𝓤 H A W R (named 0) (α ∷ []) fullShare xs b 0 room) $
       await ! tt $ pick ! (λ γ. split ! $ at-once ! $
       suffices ! (SharedOf b xs α γ) (via 𝓤 (ex 𝓤 (SharedOf b xs α)) (exI 𝓤 (SharedOf b xs α) γ) (exI 𝓤 (λ (α′ : ℕ). ex 𝓤 (SharedOf b xs α′)) α)) $
-      move ! (2 ∷ 0 ∷ []) $ frame ! $ keep ! (0 ∷ []) $ done !))
+      move ! (2 ∷ 0 ∷ 1 ∷ []) $ join ! $ frame ! $ keep ! (0 ∷ []) $ done !))
+
+  -- they are there again, as they were
+  pub shared-back : (b α : ℕ) (xs : List (R .Denot)) → ent 𝓤 (sep 𝓤 (A .lft (α ∷ []) fullShare) (A .lent (α ∷ []) (Parts b xs))) (H .⇛ (sem 𝓤 H A (cells (mem R) xs b 0)))
+  shared-back b α xs =
+      qed W (‵ (flft (α ∷ []) fullShare) ∷ ‵ (flent (α ∷ []) (Parts b xs)) ∷ []) ∵ updating ! $ lft-end ! tt $ lent-back ! tt $ at-once ! $ fsplit ! $ keep ! (1 ∷ []) $ by ! (whole-in 𝓤 H A W R xs b 0)
 
   pub cells-back : (b α : ℕ) (γ : GName) (n : ℕ) (ys : List (R .Denot))
       → ent 𝓤 (sep 𝓤 (A .lft (α ∷ []) fullShare) (sep 𝓤 (A .lent (α ∷ []) (Held R n b 0 γ)) (sem 𝓤 H A (finally R γ ys)))) (H .⇛ (sem 𝓤 H A (cells (mem R) ys b 0)))

@@ -6,12 +6,14 @@ use mathlib.Core.List.{List, [], _∷_}
 use Prim.Native.Nat.{ℕ, _/_, _%_, _<_}
 use native.Mathlib.Omega.{arith}
 use lib.Dec.{eqb}
+use lib.Ieee.{Float}
 use lib.ListN.{length}
 use borrow.Author.Tests.{eqb-true, eqb-false}
 use mir.Syntax.{w32, w64}
 use mir.Val.{Val, vint, vunit}
 use prog.Memory.{Memory}
 use Rattle.laws.specs.Words.{if_then_else_}
+use Rattle.time_clock.specs.declared.Clock.{Clock}
 use Rattle.segment.specs.Plain.{Plain}
 use Rattle.segment.specs.Calls as plain
 use Rattle.segment.specs.Calls.{receive, clear, changeBaud}
@@ -31,8 +33,8 @@ use Rattle.theorem_calls.specs.Read.{BytesIn, RecordsIn, Reads}
 
 -- a call on the image bs, in the memory σ, returned r and left the memory σ₁ and the image cs
 abbrev pub Gave : Call → List ℕ → Memory → Val → Memory → List ℕ → Type 0
-Gave (opening list bus practice origin) bs σ r σ₁ cs = (n : ℕ) × (r ≡ vint w32 n) × OpenedImage list bus practice origin (n % 256) (n / 256) bs cs
-Gave (sending piece k) bs σ r σ₁ cs = (n : ℕ) × (r ≡ vint w32 n) × DoneImage (send piece k (decodeImage bs)) n bs cs
+Gave (opening list bus practice origin) bs σ r σ₁ cs = (n : ℕ) × (r ≡ vint w32 n) × BytesIn σ₁ (length σ) list × OpenedImage list bus practice origin (n % 256) (n / 256) bs cs
+Gave (sending piece k) bs σ r σ₁ cs = (n : ℕ) × (r ≡ vint w32 n) × BytesIn σ₁ (length σ) piece × DoneImage (send piece k (decodeImage bs)) n bs cs
 Gave (receiving xs) bs σ r σ₁ cs = (n : ℕ) × (ys : List ℕ) × (r ≡ vint w64 n) × BytesIn σ₁ (length σ) ys × ReceivedImage (receive xs (decodeImage bs)) n ys bs cs
 Gave clearing bs σ r σ₁ cs = (r ≡ vunit) × LeftImage (clear (decodeImage bs)) bs cs
 Gave (changing baud) bs σ r σ₁ cs = (n : ℕ) × (r ≡ vint w32 n) × DoneImage (changeBaud baud (decodeImage bs)) n bs cs
@@ -45,8 +47,8 @@ Gave (searchingInto k allowance lent) bs σ r σ₁ cs = (x : Searched) × (es :
 -- the image means the plain segment after the call
 pub means : (c : Call) (bs : List ℕ) (σ : Memory) (r : Val) (σ₁ : Memory) (cs : List ℕ) → Gave c bs σ r σ₁ cs → decodeImage cs ≡ afterCall c (decodeImage bs)
 unfolding afterCall doneBy receivedBy searchedOf
-means (opening list bus practice origin) bs σ r σ₁ cs g = g .2 .segment
-means (sending piece k) bs σ r σ₁ cs g = ap (λ (d : plain.Done). d .segment) (g .2 .answer)
+means (opening list bus practice origin) bs σ r σ₁ cs g = g .3 .segment
+means (sending piece k) bs σ r σ₁ cs g = ap (λ (d : plain.Done). d .segment) (g .3 .answer)
 means (receiving xs) bs σ r σ₁ cs g = ap (λ (d : plain.Received). d .segment) (g .4 .answer)
 means clearing bs σ r σ₁ cs g = g .1 .segment
 means (changing baud) bs σ r σ₁ cs g = ap (λ (d : plain.Done). d .segment) (g .2 .answer)
@@ -63,8 +65,8 @@ opened-exact n bs cs s e z k x = go (eqb n 0) refl
 
 -- it is the one image of that segment
 pub exact : (c : Call) (bs : List ℕ) (σ : Memory) (r : Val) (σ₁ : Memory) (cs : List ℕ) → Gave c bs σ r σ₁ cs → Exact bs → Exact cs
-exact (opening list bus practice origin) bs σ r σ₁ cs g x = opened-exact (g .0 % 256) bs cs _ (g .2 .segment) (g .2 .bytes) (g .2 .kept) x
-exact (sending piece k) bs σ r σ₁ cs g x = g .2 .exact x
+exact (opening list bus practice origin) bs σ r σ₁ cs g x = opened-exact (g .0 % 256) bs cs _ (g .3 .segment) (g .3 .bytes) (g .3 .kept) x
+exact (sending piece k) bs σ r σ₁ cs g x = g .3 .exact x
 exact (receiving xs) bs σ r σ₁ cs g x = g .4 .exact x
 exact clearing bs σ r σ₁ cs g x = g .1 .exact x
 exact (changing baud) bs σ r σ₁ cs g x = g .2 .exact x
@@ -81,20 +83,48 @@ summary-is w n su zs e told kept = go (eqb (w .number) 0) refl
     go true h = told (e ∙ eqb-true (w .number) 0 h) ∙ sym (ap (λ b. if b then summaryOf (w .count) (w .probes) (w .spent) else su) h)
     go false h = let f = eqb-false (w .number) 0 h in kept (omega (arith, e, f)) ∙ sym (ap (λ b. if b then summaryOf (w .count) (w .probes) (w .spent) else su) h)
 
--- what was returned and written is an answer that 01 gives
-pub answered : (c : Call) (bs : List ℕ) (σ : Memory) (r : Val) (σ₁ : Memory) (cs : List ℕ) → Gave c bs σ r σ₁ cs → (a : Answer) × Reads c σ r σ₁ a × Gives (decodeImage bs) c a
-unfolding doneBy receivedBy searchedOf
-answered (opening list bus practice origin) bs σ r σ₁ cs g = (opened (g .0 % 256) (g .0 / 256), (g .0, g .1, refl), (g .0 % 256, g .0 / 256, refl, g .2 .gives))
-answered (sending piece k) bs σ r σ₁ cs g = (sent (g .0), (g .0, g .1, refl), ap (λ (d : plain.Done). sent (d .number)) (g .2 .answer))
-answered (receiving xs) bs σ r σ₁ cs g = (received (g .0) (g .1), (g .0, g .1, g .2, g .3, refl), ap (λ (d : plain.Received). received (d .count) (d .lent)) (g .4 .answer))
-answered clearing bs σ r σ₁ cs g = (cleared, (g .0, refl), refl)
-answered (changing baud) bs σ r σ₁ cs g = (changed (g .0), (g .0, g .1, refl), ap (λ (d : plain.Done). changed (d .number)) (g .2 .answer))
-answered (searching k allowance xs su) bs σ r σ₁ cs g =
-    let w = searchBy k allowance xs (decodeImage bs) in
-    let e = summary-is w (g .0) su (g .2) (g .6 .answer) (g .6 .told) (g .6 .summary-kept) in (
-      searched (g .0) (g .1) (g .2),
-      (g .0, g .1, g .2, g .3, g .4, g .5, refl),
-      λ j. searched (g .6 .answer j) (g .6 .written j) (e j),
-    )
-answered (searchingInto k allowance lent) bs σ r σ₁ cs g =
-    (_, (g .0, g .1, g .2, g .3, refl), ap (λ (d : definitions.Searched). searchedInto (d .number) (d .count) (d .probes) (d .spent) (d .lent)) (g .4 .gives))
+-- what was returned and written is an answer that 01 gives: of each call, and of any
+abbrev Answered : Call → List ℕ → Memory → Val → Memory → Type 0
+Answered c bs σ r σ₁ = (a : Answer) × Reads c σ r σ₁ a × Gives (decodeImage bs) c a
+
+module _ (bs : List ℕ) (σ : Memory) (r : Val) (σ₁ : Memory) (cs : List ℕ) where
+  answers-open : (list : List ℕ) (bus : ℕ) (practice : Bool) (origin : Float) → Gave (opening list bus practice origin) bs σ r σ₁ cs → Answered (opening list bus practice origin) bs σ r σ₁
+  answers-open list bus practice origin g = (opened (g .0 % 256) (g .0 / 256), (g .0, g .1, g .2, refl), (g .0 % 256, g .0 / 256, refl, g .3 .gives))
+
+  answers-send : (piece : List ℕ) (k : Clock) → Gave (sending piece k) bs σ r σ₁ cs → Answered (sending piece k) bs σ r σ₁
+  unfolding doneBy
+  answers-send piece k g = (sent (g .0), (g .0, g .1, g .2, refl), ap (λ (d : plain.Done). sent (d .number)) (g .3 .answer))
+
+  answers-receive : (lent : List ℕ) → Gave (receiving lent) bs σ r σ₁ cs → Answered (receiving lent) bs σ r σ₁
+  unfolding receivedBy
+  answers-receive lent g = (received (g .0) (g .1), (g .0, g .1, g .2, g .3, refl), ap (λ (d : plain.Received). received (d .count) (d .lent)) (g .4 .answer))
+
+  answers-clear : Gave clearing bs σ r σ₁ cs → Answered clearing bs σ r σ₁
+  answers-clear g = (cleared, (g .0, refl), refl)
+
+  answers-baud : (baud : ℕ) → Gave (changing baud) bs σ r σ₁ cs → Answered (changing baud) bs σ r σ₁
+  unfolding doneBy
+  answers-baud baud g = (changed (g .0), (g .0, g .1, refl), ap (λ (d : plain.Done). changed (d .number)) (g .2 .answer))
+
+  answers-search : (k : Clock) (allowance : ℕ) (xs su : List ℕ) → Gave (searching k allowance xs su) bs σ r σ₁ cs → Answered (searching k allowance xs su) bs σ r σ₁
+  answers-search k allowance xs su g =
+      let w = searchBy k allowance xs (decodeImage bs) in
+      let e = summary-is w (g .0) su (g .2) (g .6 .answer) (g .6 .told) (g .6 .summary-kept) in (
+        searched (g .0) (g .1) (g .2),
+        (g .0, g .1, g .2, g .3, g .4, g .5, refl),
+        λ j. searched (g .6 .answer j) (g .6 .written j) (e j),
+      )
+
+  answers-search-into : (k : Clock) (allowance : ℕ) (lent : List EntryRecord) → Gave (searchingInto k allowance lent) bs σ r σ₁ cs → Answered (searchingInto k allowance lent) bs σ r σ₁
+  unfolding searchedOf
+  answers-search-into k allowance lent g =
+      (_, (g .0, g .1, g .2, g .3, refl), ap (λ (d : definitions.Searched). searchedInto (d .number) (d .count) (d .probes) (d .spent) (d .lent)) (g .4 .gives))
+
+pub answered : (c : Call) (bs : List ℕ) (σ : Memory) (r : Val) (σ₁ : Memory) (cs : List ℕ) → Gave c bs σ r σ₁ cs → Answered c bs σ r σ₁
+answered (opening list bus practice origin) bs σ r σ₁ cs g = answers-open bs σ r σ₁ cs list bus practice origin g
+answered (sending piece k) bs σ r σ₁ cs g = answers-send bs σ r σ₁ cs piece k g
+answered (receiving lent) bs σ r σ₁ cs g = answers-receive bs σ r σ₁ cs lent g
+answered clearing bs σ r σ₁ cs g = answers-clear bs σ r σ₁ cs g
+answered (changing baud) bs σ r σ₁ cs g = answers-baud bs σ r σ₁ cs baud g
+answered (searching k allowance xs su) bs σ r σ₁ cs g = answers-search bs σ r σ₁ cs k allowance xs su g
+answered (searchingInto k allowance lent) bs σ r σ₁ cs g = answers-search-into bs σ r σ₁ cs k allowance lent g

@@ -3,7 +3,8 @@
 --     Loan             one reference: what is in memory before and after the call, what the function is given, and
 --                      what the lender keeps aside
 --     ref-loan         one value lent as a `&mut T`, and there again after the call.        T is an array for an image
---     slice-loan       values lent as a `&mut [T]`, and there again.        shared-slice-loan     as a `&[T]`
+--     slice-loan       values lent as a `&mut [T]`, and there again.        shared-slice-loan     as a `&[T]`, and there
+--                      again as they were
 --     called           a function that is given a list of loans comes to its end, its promise is a plain fact of the
 --                      result and of the last values, and memory has these
 -- Assumes a `Model`, and `Given`.
@@ -39,7 +40,7 @@ use types.Kit.{Given, ‵, raw, _⊛_, some, later, _$_, _∵_, !, qed, by, move
 use types.SemTy.{cells, Body}
 use types.Tokens.{lft-new, lft-end}
 use Rattle.theorem_calls.proofs.Machine.{returns}
-use Rattle.theorem_calls.proofs.Blocks.{LentOf, lend-cells, cells-back, SharedOf, share-cells}
+use Rattle.theorem_calls.proofs.Blocks.{lend-cells, cells-back, Parts, share-cells, shared-back}
 
 -- the reference to x at place 0 of the block b
 abbrev pub refTo : {D : Type 0} → ℕ → GName → D → RefT D
@@ -120,27 +121,16 @@ module _ {M : Type 1} (𝓤 : URA M) (H : Heap 𝓤) (A : Atoms 𝓤) (W : Given
       back = slice-returns;
     }
 
-    abbrev SharedLent : ℕ → GName → SProp 𝓤
-    SharedLent α γ = sep 𝓤 (SharedOf 𝓤 H A W R b xs α γ) (emp 𝓤)
-
-    pub shared-lend : ent 𝓤 (Cells xs) (H .⇛ (ex 𝓤 (λ (α : ℕ). ex 𝓤 (SharedLent α))))
-    shared-lend =
-        qed W (raw (Cells xs) ∷ []) ∵ updating ! $ use1 W (later (some (λ (α : ℕ). some (λ (γ : GName). raw (SharedOf 𝓤 H A W R b xs α γ))))) (share-cells 𝓤 H A W R b xs room) $
-        await ! tt $ pick ! (λ α. pick ! (λ γ. at-once ! $
-        suffices ! (SharedLent α γ) (via 𝓤 (ex 𝓤 (SharedLent α)) (exI 𝓤 (SharedLent α) γ) (exI 𝓤 (λ (α′ : ℕ). ex 𝓤 (SharedLent α′)) α)) $
-        use0 W (raw (emp 𝓤)) (id⊢ 𝓤 (emp 𝓤)) $ move ! (1 ∷ 0 ∷ []) $ done !))
-
-    -- the bytes are not asked for again: their block is a fresh one
     abbrev pub shared-slice-loan : Loan 𝓤 H A
     shared-slice-loan = record {
       Value = Unit {0};
       before = Cells xs;
-      after = λ _. emp 𝓤;
+      after = λ _. Cells xs;
       given = λ α γ. sem 𝓤 H A (ShrSlice (named 0) (α ∷ []) R .own (refTo b γ xs) (sliceVal (b, 0) (length xs) ∷ []));
-      aside = λ α γ. emp 𝓤;
+      aside = λ α γ. A .lent (α ∷ []) (Parts 𝓤 H A W R b xs);
       final = λ γ _. emp 𝓤;
-      lend = shared-lend;
-      back = λ α γ _. qed W (‵ (flft (α ∷ []) fullShare) ∷ raw (emp 𝓤) ∷ raw (emp 𝓤) ∷ []) ∵ updating ! $ at-once ! $ keep ! (1 ∷ []) $ done !;
+      lend = share-cells 𝓤 H A W R b xs room;
+      back = λ α γ _. qed W (‵ (flft (α ∷ []) fullShare) ∷ ‵ (flent (α ∷ []) (Parts 𝓤 H A W R b xs)) ∷ raw (emp 𝓤) ∷ []) ∵ keep ! (0 ∷ 1 ∷ []) $ by ! (shared-back 𝓤 H A W R b α xs);
     }
 
 -- ---- a function's arguments: each is lent, with a lifetime of its own, or goes by value and is had for nothing

@@ -134,21 +134,27 @@ module _ {M : Type 1} (𝓤 : URA M) (H : Heap 𝓤) (𝓜 : Model 𝓤 H) (𝓖
     open-ends list bus practice origin f =
         let as′ : List (Arg 𝓤 H (𝓖 .A)) = image ∷ shared-bytes 𝓤 H 𝓜 𝓖 𝓡 (length σ) list (f .0 .1) ∷ word 𝓤 H 𝓜 𝓖 𝓡 bus (f .1 .0) ∷ flag 𝓤 H 𝓜 𝓖 𝓡 practice ∷ double 𝓤 H 𝓜 𝓖 𝓡 origin (f .1 .1) ∷ [] in
         let φ : ℕ → Values 𝓤 H (𝓖 .A) as′ → Type 0 = λ r w. OpenedImage list bus practice origin (r % 256) (r / 256) bs (w .0) in
+        let Xs : SProp 𝓤 = Bytes 𝓤 H 𝓜 𝓖 𝓡 (length σ) list in
         ∥∥₁-elim (holds-bytes 𝓤 H 𝓜 𝓖 𝓡 σ (sep 𝓤 (Im bs) G) s list (f .0 .0)) ∥∥₁-prop (λ there.
-        ∥∥₁-map (called 𝓤 H 𝓜 𝓖 𝓡 open-contract.signature open-routine (open-contract.spec 𝓤 H (𝓖 .A) (𝓜 .mem) (𝓡 .run)) (open-met.met 𝓤 H 𝓜 𝓖 𝓡) as′
+        ∥∥₁-elim (called 𝓤 H 𝓜 𝓖 𝓡 open-contract.signature open-routine (open-contract.spec 𝓤 H (𝓖 .A) (𝓜 .mem) (𝓡 .run)) (open-met.met 𝓤 H 𝓜 𝓖 𝓡) as′
         (λ i. (((i .0 .0 ∷ [], (i .1 .0 .0 ∷ [], tt)), (fullShare, (fullShare, tt)), tt, (refTo b (i .0 .1) bs, (refTo (length σ) (i .1 .0 .1) list, (bus, (practice, (origin, tt))))), (vptr b 0 ∷ [], (lentAt σ (length list) ∷ [], (vint w32 bus ∷ [], (vbool practice ∷ [], (vfloat binary64 origin ∷ [], tt)))))), tt)) (withBytes σ list) G
         (enters as′) (lives as′) (λ i. φ) (says as′ φ)
-        (beside 𝓤 H 𝓜 𝓖 𝓡 (withBytes σ list) (Im bs) G (Bytes 𝓤 H 𝓜 𝓖 𝓡 (length σ) list) there)) (λ t. ((t .1, t .2), t .5, (t .4 .0, (t .3, one (t .6 .0), t .7), kept 𝓤 H 𝓜 𝓖 𝓡 (t .2) (Im (t .4 .0)) G (sep 𝓤 (emp 𝓤) (emp 𝓤)) (t .8)))))
+        (beside 𝓤 H 𝓜 𝓖 𝓡 (withBytes σ list) (Im bs) G Xs there)) ∥∥₁-prop (λ t.
+        ∥∥₁-map (loads-bytes 𝓤 H 𝓜 𝓖 𝓡 list (length σ) (t .2) G (first 𝓤 H 𝓜 𝓖 𝓡 (t .2) (Im (t .4 .0)) G Xs (emp 𝓤) (t .8))) (λ l.
+        ((t .1, t .2), t .5, (t .4 .0, (t .3, one (t .6 .0), l, t .7), kept 𝓤 H 𝓜 𝓖 𝓡 (t .2) (Im (t .4 .0)) G (sep 𝓤 Xs (emp 𝓤)) (t .8))))))
 
     pub send-ends : (piece : List ℕ) (k : Clock) → FitCall (sending piece k) → ∥ Ends b (sending piece k) bs σ G ∥₁
     send-ends piece k f =
         let as′ : List (Arg 𝓤 H (𝓖 .A)) = image ∷ shared-bytes 𝓤 H 𝓜 𝓖 𝓡 (length σ) piece (f .0 .1) ∷ clock-then 𝓤 H 𝓜 𝓖 𝓡 k (f .1) [] in
         let φ : ℕ → Values 𝓤 H (𝓖 .A) as′ → Type 0 = λ r w. DoneImage (send piece k (decodeImage bs)) r bs (w .0) in
+        let Xs : SProp 𝓤 = Bytes 𝓤 H 𝓜 𝓖 𝓡 (length σ) piece in
         ∥∥₁-elim (holds-bytes 𝓤 H 𝓜 𝓖 𝓡 σ (sep 𝓤 (Im bs) G) s piece (f .0 .0)) ∥∥₁-prop (λ there.
-        ∥∥₁-map (called 𝓤 H 𝓜 𝓖 𝓡 send-contract.signature send-routine (send-contract.spec 𝓤 H (𝓖 .A) (𝓜 .mem) (𝓡 .run)) (send-met.met 𝓤 H 𝓜 𝓖 𝓡) as′
+        ∥∥₁-elim (called 𝓤 H 𝓜 𝓖 𝓡 send-contract.signature send-routine (send-contract.spec 𝓤 H (𝓖 .A) (𝓜 .mem) (𝓡 .run)) (send-met.met 𝓤 H 𝓜 𝓖 𝓡) as′
         (λ i. (((i .0 .0 ∷ [], (i .1 .0 .0 ∷ [], tt)), (fullShare, (fullShare, tt)), tt, (refTo b (i .0 .1) bs, (refTo (length σ) (i .1 .0 .1) piece, (k .now, (k .year, (k .month, (k .day, (k .hour, (k .minute, tt)))))))), (vptr b 0 ∷ [], (lentAt σ (length piece) ∷ [], (vfloat binary64 (k .now) ∷ [], (vint w32 (k .year) ∷ [], (vint w32 (k .month) ∷ [], (vint w32 (k .day) ∷ [], (vint w32 (k .hour) ∷ [], (vint w32 (k .minute) ∷ [], tt))))))))), tt)) (withBytes σ piece) G
         (enters as′) (lives as′) (λ i. φ) (says as′ φ)
-        (beside 𝓤 H 𝓜 𝓖 𝓡 (withBytes σ piece) (Im bs) G (Bytes 𝓤 H 𝓜 𝓖 𝓡 (length σ) piece) there)) (λ t. ((t .1, t .2), t .5, (t .4 .0, (t .3, one (t .6 .0), t .7), kept 𝓤 H 𝓜 𝓖 𝓡 (t .2) (Im (t .4 .0)) G (sep 𝓤 (emp 𝓤) (emp 𝓤)) (t .8)))))
+        (beside 𝓤 H 𝓜 𝓖 𝓡 (withBytes σ piece) (Im bs) G Xs there)) ∥∥₁-prop (λ t.
+        ∥∥₁-map (loads-bytes 𝓤 H 𝓜 𝓖 𝓡 piece (length σ) (t .2) G (first 𝓤 H 𝓜 𝓖 𝓡 (t .2) (Im (t .4 .0)) G Xs (emp 𝓤) (t .8))) (λ l.
+        ((t .1, t .2), t .5, (t .4 .0, (t .3, one (t .6 .0), l, t .7), kept 𝓤 H 𝓜 𝓖 𝓡 (t .2) (Im (t .4 .0)) G (sep 𝓤 Xs (emp 𝓤)) (t .8))))))
 
     pub receive-ends : (xs : List ℕ) → FitCall (receiving xs) → ∥ Ends b (receiving xs) bs σ G ∥₁
     receive-ends xs f =

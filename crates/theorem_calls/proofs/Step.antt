@@ -1,5 +1,5 @@
 -- One call.
-use mathlib.Core.Path.{_≡_, refl, ap, subst, _∙_}
+use mathlib.Core.Path.{_≡_, refl, sym, ap, subst, _∙_}
 use mathlib.Core.Logic.{∥∥₁-prop, ∥∥₁-elim, ∥∥₁-map}
 use mathlib.Core.List.{List, [], _∷_}
 use Prim.Native.Nat.{ℕ}
@@ -15,6 +15,7 @@ use prog.Model.{Model}
 use prog.Routine.{ends-one}
 use contract.Running.{Running, GhostRules}
 use Rattle.time_clock.proofs.Clock.Laws.{lowered as clock-value}
+use Rattle.segment.specs.Plain.{Plain}
 use Rattle.segment_image.specs.Image.{decodeImage, encodeImage, Exact}
 use Rattle.search_walk.proofs.Seen.{WellFormed}
 use Rattle.search.proofs.search.Symbol.{routine as search-into-routine}
@@ -72,6 +73,6 @@ module _ {M : Type 1} (𝓤 : URA M) (H : Heap 𝓤) (𝓜 : Model 𝓤 H) (𝓖
       let z = exact c bs σ r σ₁ cs (d .1) x in
       let a = answered c bs σ r σ₁ cs (d .1) in
       ∥∥₁-map (holds-one b cs σ₁ G z (d .2)) (λ l. (
-        record { answer = a .0; read = a .1; gives = a .2; image = subst (HoldsImage σ₁ b) e l; demands = demands c (decodeImage bs) w },
+        record { answer = a .0; read = a .1; gives = a .2; image = subst (HoldsImage σ₁ b) e l; meant = subst (λ (t : Plain). decodeImage (encodeImage t) ≡ t) e (ap decodeImage (sym z)); demands = demands c (decodeImage bs) w },
         (cs, z, e, d .2),
       )))

@@ -1,5 +1,6 @@
 -- DEMAND 3, of the entry points of the static library on the language's machine: "one statement about the whole list,
 -- not one for each call".
+use mathlib.Core.Path.{_≡_}
 use mathlib.Core.Bool.{Bool}
 use mathlib.Core.List.{List, [], _∷_}
 use Prim.Native.Nat.{ℕ}
@@ -11,7 +12,7 @@ use prog.Memory.{Memory}
 use prog.Routine.{ends}
 use Rattle.laws.specs.Words.{Every}
 use Rattle.segment.specs.Plain.{Plain, blank}
-use Rattle.segment_image.specs.Image.{encodeImage}
+use Rattle.segment_image.specs.Image.{decodeImage, encodeImage}
 use Rattle.jezynar.proofs.jezynar_segment_new.Symbol.{routine as new-routine}
 use Rattle.theorem_calls.specs.Call.{Call, opening, afterCall, afterCalls}
 use Rattle.theorem_calls.specs.Answer.{Answer, Gives, Demands}
@@ -51,6 +52,8 @@ pub record Right (b : ℕ) (s : Plain) (c : Call) (σ : Memory) (r : Val) (σ′
   pub gives : Gives s c answer
   -- it left the image of 01's segment
   pub image : HoldsImage σ′ b (afterCall c s)
+  -- and read back, these bytes are that segment in all its parts
+  pub meant : decodeImage (encodeImage (afterCall c s)) ≡ afterCall c s
   -- if it is a search that was not refused: the walk's entries, probes, spent and segment over s; price, order, each
   -- meter in exactly one entry, and the bound
   pub demands : Demands s c
