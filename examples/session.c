@@ -56,7 +56,7 @@ static size_t print_replies(void)
     while ((got = jezynar_segment_receive(image, replies + len, sizeof replies - len)) > 0)
         len += got;
     print_bytes("  reply", replies, len);
-    while (at < len && jezynar_frame_parse(replies + at, len - at, out) == JEZYNAR_COMPLETE) {
+    while (at < len && jezynar_parse_result(jezynar_frame_parse(replies + at, len - at, out)) == JEZYNAR_COMPLETE) {
         struct jezynar_description telegram = jezynar_read_description(out);
         if (telegram.kind == JEZYNAR_ACK)
             puts("  an acknowledgement");
@@ -68,16 +68,18 @@ static size_t print_replies(void)
     return len;
 }
 
-static int send(const char *what, const uint8_t *piece, size_t len)
+/* Answers how many bytes are due, 0 where the piece was refused. */
+static uint32_t send(const char *what, const uint8_t *piece, size_t len)
 {
     print_bytes(what, piece, len);
-    uint32_t number = jezynar_send(image, piece, len, &noon);
+    uint32_t answer = jezynar_send(image, piece, len, &noon);
+    uint32_t number = jezynar_sent_number(answer);
     if (number != JEZYNAR_ACCEPTED) {
         printf("refused %lu: %s\n", (unsigned long)number, jezynar_refusal_text(number));
-        return 1;
+        return 0;
     }
     print_replies();
-    return 0;
+    return jezynar_sent_due(answer);
 }
 
 static size_t encode(uint8_t kind, uint8_t control, uint8_t address, uint8_t ci, const uint8_t *data, size_t data_len,
@@ -104,23 +106,27 @@ int main(void)
     }
 
     len = encode(JEZYNAR_SHORT, JEZYNAR_C_SND_NKE, 5, 0, NULL, 0, telegram);
-    if (send("SND_NKE to 5", telegram, len))
+    if (send("SND_NKE to 5", telegram, len) == 0)
         return 1;
 
     len = encode(JEZYNAR_SHORT, JEZYNAR_C_REQ_UD2, 5, 0, NULL, 0, telegram);
-    if (send("REQ_UD2 to 5, FCB clear", telegram, len))
+    if (send("REQ_UD2 to 5, FCB clear", telegram, len) == 0)
         return 1;
     len = encode(JEZYNAR_SHORT, JEZYNAR_C_REQ_UD2 | JEZYNAR_FCB, 5, 0, NULL, 0, telegram);
-    if (send("REQ_UD2 to 5, FCB set", telegram, len))
+    if (send("REQ_UD2 to 5, FCB set", telegram, len) == 0)
         return 1;
 
     /* Select by the id, low byte first; any manufacturer, version and medium. Then read the selected meter. */
     const uint8_t mask[8] = {0x99, 0x56, 0x34, 0x12, 0xFF, 0xFF, 0xFF, 0xFF};
     len = encode(JEZYNAR_LONG, JEZYNAR_C_SND_UD, JEZYNAR_ADDR_SELECTED, JEZYNAR_CI_SELECT, mask, sizeof mask, telegram);
-    if (send("select 12345699", telegram, len))
+    if (send("select 12345699", telegram, len) == 0)
         return 1;
-    len = encode(JEZYNAR_SHORT, JEZYNAR_C_REQ_UD2, JEZYNAR_ADDR_SELECTED, 0, NULL, 0, telegram);
-    if (send("REQ_UD2 to the selected, first half", telegram, 2))
+
+    /* The beginning of a telegram, and then as many bytes as are due: its rest. */
+    encode(JEZYNAR_SHORT, JEZYNAR_C_REQ_UD2, JEZYNAR_ADDR_SELECTED, 0, NULL, 0, telegram);
+    uint32_t due = send("REQ_UD2 to the selected, first half", telegram, 2);
+    if (due == 0)
         return 1;
-    return send("and the rest", telegram + 2, len - 2);
+    printf("  %lu bytes are due\n", (unsigned long)due);
+    return send("and the rest", telegram + 2, due) == 0;
 }

@@ -12,7 +12,7 @@
  * that is written, overlap no other memory of the same call. An empty slice may have any pointer. A thread with 64 KiB
  * of stack is enough for every call. Calls on different images may run at once.
  *
- * A call that can be refused answers 0, or the number of its refusal (enum jezynar_refusal); an opening and the
+ * A call that can be refused answers 0, or the number of its refusal (enum jezynar_refusal); an opening, a send and the
  * telegram writer answer more than the number, as is said there. A refused call leaves every byte of the image and of
  * the buffers unchanged. Every value of the arguments is taken.
  *
@@ -136,7 +136,9 @@ uint32_t jezynar_segment_open(uint8_t image[JEZYNAR_IMAGE_LEN], const uint8_t *l
 
 /* Sends a piece of bytes at a clock. The piece joins the input that waits; complete telegrams are handled in turn and
  * their replies queued; an incomplete one waits for the next piece; an invalid one drops all the rest of the input.
- * Refused with 13, 14, 15. */
+ * Answers number * 65536 + due. Accepted: number 0, and due is the least number of further bytes after which what waits
+ * could be other than incomplete; 1 where nothing waits, never 0. A caller that reads exactly so many bytes before its
+ * next send misses no telegram and reads past the end of none. Refused with 13, 14, 15 (due 0). */
 uint32_t jezynar_segment_send(uint8_t image[JEZYNAR_IMAGE_LEN], const uint8_t *piece, size_t piece_len, double secs,
                               uint32_t year, uint32_t month, uint32_t day, uint32_t hour, uint32_t minute);
 
@@ -164,7 +166,10 @@ uint32_t jezynar_segment_search(uint8_t image[JEZYNAR_IMAGE_LEN], double secs, u
 
 /* ---- telegrams */
 
-/* The telegram in front of some bytes; answers an enum jezynar_parse. out, unchanged where it is not complete:
+/* The telegram in front of some bytes. Answers an enum jezynar_parse, with 256 * due added to JEZYNAR_INCOMPLETE: the
+ * least number of further bytes after which the telegram could be other than incomplete. It is 4 for a lone 10, 3 for a
+ * lone 68, what is left of the telegram once its header is there, 1 for no bytes.
+ * out, unchanged where it is not complete:
  *   0      enum jezynar_kind
  *   1..3   control, address, CI; 0 where there is none
  *   4..7   how many data bytes, which begin at byte 7 of a long telegram
@@ -206,6 +211,28 @@ static inline uint32_t jezynar_open_number(uint32_t answer)
 }
 
 static inline uint32_t jezynar_open_index(uint32_t answer)
+{
+    return answer / 256;
+}
+
+/* Of what a send answers: the number, and how many bytes are due. */
+static inline uint32_t jezynar_sent_number(uint32_t answer)
+{
+    return answer / 65536;
+}
+
+static inline uint32_t jezynar_sent_due(uint32_t answer)
+{
+    return answer % 65536;
+}
+
+/* Of what parse answers: what it says of the bytes, and how many are due, 0 where they are not incomplete. */
+static inline enum jezynar_parse jezynar_parse_result(uint32_t answer)
+{
+    return (enum jezynar_parse)(answer % 256);
+}
+
+static inline uint32_t jezynar_parse_due(uint32_t answer)
 {
     return answer / 256;
 }

@@ -70,7 +70,8 @@ fn clock() -> io::Result<Clock> {
 /// Hands a piece to the segment, and all its replies to the client.
 fn pass(piece: &[u8], segment: &mut Segment, client: &mut TcpStream) -> io::Result<()> {
     match segment.send(piece, &clock()?) {
-        Ok(()) => {}
+        // What is due is not asked for: a connection hands out the bytes that are there.
+        Ok(_) => {}
         // More replies than the queue holds: in halves. One byte completes at most one telegram, whose replies fit.
         Err(SendRefusal::QueueFull) if piece.len() > 1 => {
             let (front, back) = piece.split_at(piece.len() / 2);

@@ -132,7 +132,11 @@ pub enum Parsed<'a> {
         used: usize,
     },
     /// The beginning of a telegram: more bytes are needed.
-    Incomplete,
+    Incomplete {
+        /// The least number of further bytes after which it could be other than incomplete, at least 1: 4 for a lone
+        /// 10, 3 for a lone 68, what is left of the telegram once its header is there, 1 for no bytes.
+        due: usize,
+    },
     /// No telegram.
     Invalid(Why),
 }
@@ -167,12 +171,22 @@ impl fmt::Display for Why {
 impl std::error::Error for Why {}
 
 /// The telegram in front of some bytes.
+///
+/// ```
+/// use jezynar::frame::{parse, Frame, Parsed};
+///
+/// let nke = Frame::snd_nke(1).to_vec()?;
+/// assert_eq!(parse(&nke[..1]), Parsed::Incomplete { due: 4 });
+/// assert_eq!(parse(&nke), Parsed::Complete { frame: Frame::snd_nke(1), used: 5 });
+/// # Ok::<(), jezynar::EncodeRefusal>(())
+/// ```
 pub fn parse(bytes: &[u8]) -> Parsed<'_> {
     let mut out = [0; ffi::DESCRIPTION];
-    // The library gives no other numbers.
-    match ffi::parse(bytes, &mut out) {
+    // The library's answer is 0 to 6, with 256 * due added to 1.
+    let answer = ffi::parse(bytes, &mut out);
+    match answer % 256 {
         0 => complete(bytes, out),
-        1 => Parsed::Incomplete,
+        1 => Parsed::Incomplete { due: (answer / 256) as usize },
         2 => Parsed::Invalid(Why::Checksum),
         3 => Parsed::Invalid(Why::Stop),
         4 => Parsed::Invalid(Why::Header),

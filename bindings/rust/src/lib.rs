@@ -71,6 +71,7 @@
 //! ```
 //!
 //! `examples/serve.rs` puts a segment behind a TCP port, for masters that are programs of their own.
+//! `examples/serial.rs` is a serial task, which reads as many bytes as are due.
 
 #![deny(missing_docs)]
 #![deny(unsafe_code)]
@@ -151,9 +152,27 @@ impl Segment {
     /// Sends a piece of up to 1,024 bytes. It joins the waiting input; complete telegrams are handled in turn, an
     /// incomplete one waits, an invalid one discards all remaining input. Replies join the queue, except to address FF.
     ///
+    /// Gives how many bytes are due: the least number of further bytes after which what waits could be other than
+    /// incomplete, at least 1, and 1 where nothing waits. Read exactly so many bytes before the next send, and no
+    /// telegram is missed or waited for too long. `examples/serial.rs` does so.
+    ///
+    /// ```
+    /// use jezynar::frame::Frame;
+    /// use jezynar::{Clock, Segment};
+    ///
+    /// # fn main() -> Result<(), Box<dyn std::error::Error>> {
+    /// let mut segment = Segment::new();
+    /// let clock = Clock::from_unix(0.0).ok_or("no such clock")?;
+    /// let nke = Frame::snd_nke(1).to_vec()?;
+    /// assert_eq!(segment.send(&nke[..1], &clock), Ok(4));
+    /// assert_eq!(segment.send(&nke[1..], &clock), Ok(1));
+    /// # Ok(())
+    /// # }
+    /// ```
+    ///
     /// # Errors
     /// 13 the piece has over 1,024 bytes; 14 a clock field is out of range; 15 the queue would pass 4,096 bytes.
-    pub fn send(&mut self, piece: &[u8], clock: &Clock) -> Result<(), SendRefusal> {
+    pub fn send(&mut self, piece: &[u8], clock: &Clock) -> Result<usize, SendRefusal> {
         SendRefusal::check(ffi::send(&mut self.image, piece, clock))
     }
 

@@ -119,10 +119,10 @@ pub enum SendRefusal {
 }
 
 impl SendRefusal {
-    /// The library gives no other numbers.
-    pub(crate) fn check(answer: u32) -> Result<(), Self> {
-        match answer {
-            0 => Ok(()),
+    /// The library's answer is number * 65536 + bytes due, with no other numbers.
+    pub(crate) fn check(answer: u32) -> Result<usize, Self> {
+        match answer / 65536 {
+            0 => Ok(answer as usize),
             13 => Err(SendRefusal::PieceTooLong),
             14 => Err(SendRefusal::Clock),
             _ => Err(SendRefusal::QueueFull),

@@ -20,6 +20,12 @@ fn call<T, E>(segment: &mut Segment, call: impl FnOnce(&mut Segment) -> Result<T
     answer
 }
 
+/// After an accepted send at least one byte is due, and at most the rest of the longest telegram behind its header.
+fn send(segment: &mut Segment, piece: &[u8]) {
+    let due = call(segment, |s| s.send(piece, &CLOCK));
+    assert!(due.is_none_or(|due| (1..=257).contains(&due)), "{due:?}");
+}
+
 fn receive(segment: &mut Segment) -> usize {
     let mut lent = [0xAA; 40];
     let count = segment.receive(&mut lent);
@@ -52,8 +58,8 @@ fn every_call(image: &[u8; IMAGE]) -> usize {
     assert_eq!(kept.receive(&mut []), 0);
     assert!(kept.as_image() == from().as_image());
     let mut entries = search(&mut from(), u32::MAX);
-    call(&mut from(), |s| s.send(&TELEGRAMS, &CLOCK));
-    call(&mut from(), |s| s.send(&[0xFF; 1024], &CLOCK));
+    send(&mut from(), &TELEGRAMS);
+    send(&mut from(), &[0xFF; 1024]);
     assert!(call(&mut from(), |s| s.open(&two_water(), 9600, true, f64::NAN)).is_some());
     assert!(call(&mut from(), |s| s.open(&[1, 0, 1], 2400, false, 0.0)).is_none());
     assert!(call(&mut from(), |s| s.set_baud(2400)).is_some());
@@ -65,12 +71,12 @@ fn every_call(image: &[u8; IMAGE]) -> usize {
     assert!(is_tidy(&segment));
     assert_eq!(receive(&mut segment), 0);
     // A byte that starts no telegram discards what waits, if it does not complete it.
-    call(&mut segment, |s| s.send(&[0; 261], &CLOCK));
+    send(&mut segment, &[0; 261]);
     segment.clear();
     entries += search(&mut segment, 50);
     entries += search(&mut segment, u32::MAX);
-    call(&mut segment, |s| s.send(&NKE_ALL.repeat(3), &CLOCK));
-    call(&mut segment, |s| s.send(&TELEGRAMS, &CLOCK));
+    send(&mut segment, &NKE_ALL.repeat(3));
+    send(&mut segment, &TELEGRAMS);
     while receive(&mut segment) > 0 {}
     call(&mut segment, |s| s.set_baud(2400));
     entries += search(&mut segment, u32::MAX);

@@ -112,7 +112,7 @@ fn the_library_takes_them() {
     let mut segment = Segment::new();
     for k in 0..=100_000 {
         let clock = Clock::from_unix((LAST / 100_000 * k).min(LAST) as f64).unwrap();
-        assert_eq!(segment.send(&[], &clock), Ok(()));
+        assert_eq!(segment.send(&[], &clock), Ok(1));
     }
-    assert_eq!(segment.send(&[], &Clock::from_unix(LAST as f64).unwrap()), Ok(()));
+    assert_eq!(segment.send(&[], &Clock::from_unix(LAST as f64).unwrap()), Ok(1));
 }

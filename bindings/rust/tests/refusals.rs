@@ -157,14 +157,14 @@ fn sends() {
     let refusal = refused(&mut busy(), |s| s.send(&[0xE5; 1025], &CLOCK));
     assert_eq!((refusal, refusal.number()), (SendRefusal::PieceTooLong, 13));
     told(&refusal, 13);
-    assert_eq!(opened(&two_water()).send(&[0xE5; 1024], &CLOCK), Ok(()));
+    assert_eq!(opened(&two_water()).send(&[0xE5; 1024], &CLOCK), Ok(1));
     for clock in bad_clocks() {
         let refusal = refused(&mut busy(), |s| s.send(&NKE_ALL, &clock));
         assert_eq!((refusal, refusal.number()), (SendRefusal::Clock, 14));
         told(&refusal, 14);
     }
     let last = Clock { secs: f64::INFINITY, year: 9999, month: 12, day: 31, hour: 23, minute: 59 };
-    assert_eq!(busy().send(&NKE_ALL, &last), Ok(()));
+    assert_eq!(busy().send(&NKE_ALL, &last), Ok(1));
 }
 
 #[test]
@@ -177,7 +177,7 @@ fn a_full_queue() {
     segment.send(&NKE_ALL.repeat(64), &CLOCK).unwrap();
     assert_eq!(refused(&mut segment, |s| s.send(&NKE_ALL, &CLOCK)), SendRefusal::QueueFull);
     assert_eq!(common::take(&mut segment), [0xE5; 4096]);
-    assert_eq!(segment.send(&NKE_ALL, &CLOCK), Ok(()));
+    assert_eq!(segment.send(&NKE_ALL, &CLOCK), Ok(1));
 }
 
 #[test]

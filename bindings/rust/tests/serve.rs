@@ -7,29 +7,18 @@
 //! What takes longer than `LIMIT` has failed.
 mod common;
 
-use common::{example, examples, NKE_ALL};
+use common::{example, examples, program, NKE_ALL};
 use jezynar::frame::{parse, Frame, Mask, Parsed, ALL, SELECTED};
 use std::fmt::Write as _;
 use std::io::{BufRead, BufReader, ErrorKind, Read, Write};
 use std::net::{Shutdown, TcpListener, TcpStream};
-use std::path::{Path, PathBuf};
+use std::path::Path;
 use std::process::{Child, Command, ExitStatus, Stdio};
 use std::sync::mpsc;
 use std::thread;
 use std::time::{Duration, Instant};
 
 const LIMIT: Duration = Duration::from_secs(10);
-
-/// The program, which `cargo test` builds with the tests, but not where it is told to build some tests alone.
-fn program() -> PathBuf {
-    let test = std::env::current_exe().expect("this test's path");
-    let program = test.ancestors().nth(2).expect("the folder of the build").join("examples/serve");
-    let written = |path: &Path| path.metadata().and_then(|of| of.modified()).ok();
-    let source = Path::new(env!("CARGO_MANIFEST_DIR")).join("examples/serve.rs");
-    let current = written(&program).is_some() && written(&program) >= written(&source);
-    assert!(current, "{} is not built from its source: run cargo test for the whole crate", program.display());
-    program
-}
 
 /// The program as it runs. It is ended with the test, if it has not ended by itself.
 struct Server {
@@ -45,7 +34,7 @@ impl Drop for Server {
 }
 
 fn spawn(arguments: &[&str]) -> Child {
-    let mut command = Command::new(program());
+    let mut command = Command::new(program("serve"));
     command.args(arguments).stdin(Stdio::null()).stdout(Stdio::piped()).stderr(Stdio::piped());
     command.spawn().expect("the program")
 }
@@ -205,10 +194,10 @@ fn every_list_is_searched_over_tcp() {
 /// Reads one whole telegram from a connection that stays open.
 fn telegram(client: &mut TcpStream) -> Vec<u8> {
     let mut got = Vec::new();
-    while parse(&got) == Parsed::Incomplete {
-        let mut byte = [0];
-        client.read_exact(&mut byte).expect("a reply");
-        got.push(byte[0]);
+    while let Parsed::Incomplete { due } = parse(&got) {
+        let begin = got.len();
+        got.resize(begin + due, 0);
+        client.read_exact(&mut got[begin..]).expect("a reply");
     }
     got
 }

@@ -17,10 +17,10 @@ whyNumber header = 4
 whyNumber badLength = 5
 whyNumber start = 6
 
--- 0 complete, 1 incomplete, 2 to 6 invalid
+-- 0 complete, 1 + 256 * due incomplete, 2 to 6 invalid
 abbrev pub parsedNumber : Parsed → ℕ
 parsedNumber (complete t used) = 0
-parsedNumber incomplete = 1
+parsedNumber (incomplete n) = 1 + 256 * n
 parsedNumber (invalid why) = whyNumber why
 
 -- kind (0 ACK, 1 short, 2 long), C, A, CI; 0 where there is none
@@ -37,7 +37,7 @@ described t used = headOf t ++ little 4 (length (dataOf t)) ++ little 4 used ++ 
 -- the 16 bytes lent, afterwards; they stay where there is no complete telegram
 abbrev pub describedIn : List ℕ → Parsed → List ℕ
 describedIn out (complete t used) = described t used
-describedIn out incomplete = out
+describedIn out (incomplete n) = out
 describedIn out (invalid why) = out
 
 -- what parsing answers, with the lent bytes afterwards

@@ -65,8 +65,8 @@ fn description(head: [u8; 4], count: usize, used: usize) -> [u8; 16]
     ]
 }
 
-// The telegram in front of some bytes: 0 complete, 1 incomplete, 2 to 6 invalid (checksum, stop, header, length,
-// start).
+// The telegram in front of some bytes: 0 complete, 1 + 256 * due incomplete, 2 to 6 invalid (checksum, stop, header,
+// length, start).
 pub fn parse(bytes: &[u8], out: &mut [u8; 16]) -> u32
     ensures { λ r. ⌜ Parses (definitions.parse (now (bytes .entry))) r (now (out .entry)) (now (out .exit)) ⌝ }
 {
@@ -75,7 +75,7 @@ pub fn parse(bytes: &[u8], out: &mut [u8; 16]) -> u32
             *out = description(head_of(frame), len, used);
             0
         }
-        ParseOutcome::Incomplete => 1,
+        ParseOutcome::Incomplete { due } => 1 + 256 * (due as u32),
         ParseOutcome::Invalid(why) => why_number(why),
     }
 }

@@ -42,7 +42,7 @@ pub found-as : {bs : List ℕ} {r : ParseOutcome} {p q : Parsed} → Finds bs p 
 found-as h e = record { tells = h .tells ∙ e; counts = h .counts ∙ ap dataLength e }
 
 -- parse, by the byte in front
-pub parse-none : (bs : List ℕ) → length bs ≡ 0 → parse bs ≡ incomplete
+pub parse-none : (bs : List ℕ) → length bs ≡ 0 → parse bs ≡ incomplete 1
 unfolding parse
 parse-none [] h = refl
 parse-none (b ∷ bs) h = absurd (omega arith)
@@ -69,8 +69,13 @@ front-long bs n a = sym (parse-front bs (positive bs n) ∙ rw (ne-eqb (at bs 0)
 pub front-other : (bs : List ℕ) → (length bs ≡ 0 → ⊥) → (at bs 0 ≡ 0xE5 → ⊥) → (at bs 0 ≡ 0x10 → ⊥) → (at bs 0 ≡ 0x68 → ⊥) → invalid start ≡ parse bs
 front-other bs n a b c = sym (parse-front bs (positive bs n) ∙ rw (ne-eqb (at bs 0) 0xE5 a, ne-eqb (at bs 0) 0x10 b, ne-eqb (at bs 0) 0x68 c))
 
+-- the short one with too few bytes
+pub short-few : (bs : List ℕ) → length bs < 5 → parseShort bs ≡ incomplete (5 - length bs)
+unfolding parseShort
+short-few bs h = rw (lt-ltb (length bs) 5 h)
+
 -- the long telegram, case by case, each by facts alone
-pub long-few : (bs : List ℕ) → length bs < 4 → parseLong bs ≡ incomplete
+pub long-few : (bs : List ℕ) → length bs < 4 → parseLong bs ≡ incomplete (4 - length bs)
 unfolding parseLong
 long-few bs a = rw (lt-ltb (length bs) 4 a)
 

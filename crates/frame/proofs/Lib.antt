@@ -1,4 +1,5 @@
 pub mod Cases
+pub mod Due
 pub mod More
 pub mod RoundTrip
 pub mod Theorems

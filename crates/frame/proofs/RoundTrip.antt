@@ -17,7 +17,7 @@ pub parseLong-is : (bs : List ℕ) → 4 ≤ length bs → at bs 2 ≡ at bs 1 �
 unfolding parseLong
 parseLong-is bs a b c d e = rw (le-ltb (length bs) 4 a, eq-eqb (at bs 2) (at bs 1) b, eq-eqb (at bs 3) 0x68 c, le-ltb (at bs 1) 3 d, le-ltb (length bs) (at bs 1 + 6) e)
 
-pub parseLong-waits : (bs : List ℕ) → 4 ≤ length bs → at bs 2 ≡ at bs 1 → at bs 3 ≡ 0x68 → 3 ≤ at bs 1 → length bs < at bs 1 + 6 → parseLong bs ≡ incomplete
+pub parseLong-waits : (bs : List ℕ) → 4 ≤ length bs → at bs 2 ≡ at bs 1 → at bs 3 ≡ 0x68 → 3 ≤ at bs 1 → length bs < at bs 1 + 6 → parseLong bs ≡ incomplete (at bs 1 + 6 - length bs)
 unfolding parseLong
 parseLong-waits bs a b c d e = rw (le-ltb (length bs) 4 a, eq-eqb (at bs 2) (at bs 1) b, eq-eqb (at bs 3) 0x68 c, le-ltb (at bs 1) 3 d, lt-ltb (length bs) (at bs 1 + 6) e)
 
@@ -83,9 +83,9 @@ parse-encode (long c a ci d) rest =
 -- ---- a parsed telegram is written back to the same bytes
 
 -- what a test let through
-waits-past : (b : Bool) (x : Parsed) (t : Telegram) (n : ℕ) → (if b then incomplete else x) ≡ complete t n → (b ≡ false) × (x ≡ complete t n)
-waits-past true x t n e = let z : _≡_ {A = ℕ} 0 1 = cc in absurd (omega arith)
-waits-past false x t n e = (refl, e)
+waits-past : (b : Bool) (m : ℕ) (x : Parsed) (t : Telegram) (n : ℕ) → (if b then incomplete m else x) ≡ complete t n → (b ≡ false) × (x ≡ complete t n)
+waits-past true m x t n e = let z : _≡_ {A = ℕ} 0 1 = cc in absurd (omega arith)
+waits-past false m x t n e = (refl, e)
 
 fails-past : (b : Bool) (w : Why) (x : Parsed) (t : Telegram) (n : ℕ) → (if not b then invalid w else x) ≡ complete t n → (b ≡ true) × (x ≡ complete t n)
 fails-past true w x t n e = (refl, e)
@@ -113,7 +113,7 @@ short-list b (c ∷ a ∷ s ∷ e ∷ r) h l p q = rw (h, p, q)
 short-back : (b : ℕ) (xs : List ℕ) (t : Telegram) (n : ℕ) → b ≡ 0x10 → parseShort (b ∷ xs) ≡ complete t n → Back (b ∷ xs) t n
 unfolding parseShort
 short-back b xs t n h e =
-    let p = waits-past _ _ t n e in
+    let p = waits-past _ _ _ t n e in
     let q = fails-past _ _ _ t n (p .1) in
     let r = fails-past _ _ _ t n (q .1) in
     let l : 5 ≤ length (b ∷ xs) = ltb-false (length (b ∷ xs)) 5 (p .0) in
@@ -152,12 +152,12 @@ long-list b (x₁ ∷ x₂ ∷ x₃ ∷ x₄ ∷ x₅ ∷ x₆ ∷ ys) l h p q r
 long-back : (b : ℕ) (xs : List ℕ) (t : Telegram) (n : ℕ) → b ≡ 0x68 → parseLong (b ∷ xs) ≡ complete t n → Back (b ∷ xs) t n
 unfolding parseLong parseBody
 long-back b xs t n h e =
-    let p = waits-past (ltb (length (b ∷ xs)) 4) _ t n e in
+    let p = waits-past (ltb (length (b ∷ xs)) 4) _ _ t n e in
     let twice = eqb (at (b ∷ xs) 2) (at (b ∷ xs) 1) in
     let again = eqb (at (b ∷ xs) 3) 0x68 in
     let q = fails-past (twice && again) header _ t n (p .1) in
     let r = fails-past′ (ltb (at (b ∷ xs) 1) 3) badLength _ t n (q .1) in
-    let u = waits-past (ltb (length (b ∷ xs)) (at (b ∷ xs) 1 + 6)) _ t n (r .1) in
+    let u = waits-past (ltb (length (b ∷ xs)) (at (b ∷ xs) 1 + 6)) _ _ t n (r .1) in
     let v = fails-past (eqb (at (b ∷ xs) (4 + at (b ∷ xs) 1)) (sum (take (at (b ∷ xs) 1) (drop 4 (b ∷ xs))))) checksum _ t n (u .1) in
     let w = fails-past (eqb (at (b ∷ xs) (5 + at (b ∷ xs) 1)) 0x16) stop _ t n (v .1) in
     let l = at (b ∷ xs) 1 in

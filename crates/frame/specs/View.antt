@@ -32,18 +32,18 @@ whyOf Start = start
 -- what parsing the bytes bs found
 abbrev pub parsedOf : List ℕ → ParseOutcome → Parsed
 parsedOf bs (Complete frame len used) = complete (telegramOf frame (dataAt bs len)) used
-parsedOf bs Incomplete = incomplete
+parsedOf bs (Incomplete n) = incomplete n
 parsedOf bs (Invalid why) = invalid (whyOf why)
 
 -- the number of data bytes that is told, and that of what was found: none where there is no telegram
 abbrev pub lengthTold : ParseOutcome → ℕ
 lengthTold (Complete frame len used) = len
-lengthTold Incomplete = 0
+lengthTold (Incomplete n) = 0
 lengthTold (Invalid why) = 0
 
 abbrev pub dataLength : Parsed → ℕ
 dataLength (complete t n) = length (dataOf t)
-dataLength incomplete = 0
+dataLength (incomplete n) = 0
 dataLength (invalid w) = 0
 
 -- r tells what parsing bs finds, which is p; and the number of data bytes also of an ACK and a short telegram, where

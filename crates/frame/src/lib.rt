@@ -76,14 +76,16 @@ pub enum Why {
 }
 
 // What parsing finds: a telegram with the number of its data bytes, which `data_of` gives, and of all bytes used;
-// more bytes are needed; or the bytes are no telegram.
+// more bytes are needed, and how many at least; or the bytes are no telegram.
 pub enum ParseOutcome {
     Complete {
         frame: Frame,
         len: usize,
         used: usize,
     },
-    Incomplete,
+    Incomplete {
+        due: u16,
+    },
     Invalid(Why),
 }
 
@@ -117,7 +119,9 @@ fn parse_short(s: &[u8]) -> ParseOutcome
     ensures { λ r. ⌜ Finds (now (s .entry)) (parseShort (now (s .entry))) r ⌝ }
 {
     if s.len() < 5 {
-        return ParseOutcome::Incomplete;
+        let rest = 5 - s.len();
+        let due = rest as u16;
+        return ParseOutcome::Incomplete { due };
     }
     let c = s[1];
     let a = s[2];
@@ -142,7 +146,9 @@ fn parse_long(s: &[u8]) -> ParseOutcome
     ensures { λ r. ⌜ Finds (now (s .entry)) (parseLong (now (s .entry))) r ⌝ }
 {
     if s.len() < 4 {
-        return ParseOutcome::Incomplete;
+        let rest = 4 - s.len();
+        let due = rest as u16;
+        return ParseOutcome::Incomplete { due };
     }
     let l = wide(s[1]);
     if wide(s[2]) != l {
@@ -154,8 +160,11 @@ fn parse_long(s: &[u8]) -> ParseOutcome
     if l < 3 {
         return ParseOutcome::Invalid(Why::Length);
     }
-    if s.len() < l + 6 {
-        return ParseOutcome::Incomplete;
+    let all = l + 6;
+    if s.len() < all {
+        let rest = all - s.len();
+        let due = rest as u16;
+        return ParseOutcome::Incomplete { due };
     }
     let total = checksum(&s[4..4 + l]);
     if s[4 + l] != total {
@@ -171,7 +180,7 @@ fn parse_long(s: &[u8]) -> ParseOutcome
             ci: s[6],
         },
         len: l - 3,
-        used: l + 6,
+        used: all,
     }
 }
 
@@ -180,7 +189,7 @@ pub fn parse(s: &[u8]) -> ParseOutcome
     ensures { λ r. ⌜ Finds (now (s .entry)) (Rattle.frame.specs.Frame.parse (now (s .entry))) r ⌝ }
 {
     if s.len() == 0 {
-        return ParseOutcome::Incomplete;
+        return ParseOutcome::Incomplete { due: 1 };
     }
     let b = s[0];
     if b == ACK {

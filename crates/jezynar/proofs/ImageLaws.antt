@@ -1,4 +1,4 @@
--- What an opening answers, packed into one number.
+-- What an opening and a send answer, packed into one number.
 use mathlib.Core.Path.{_≡_, ap, _∙_}
 use mathlib.Core.Bool.{Bool, false, _||_, not}
 use mathlib.Core.List.{List, _∷_}
@@ -21,6 +21,9 @@ use Rattle.list_check.specs.Checked.{failNumber}
 use Rattle.list_check.specs.declared.Failing.{Failing}
 use Rattle.list_check.specs.declared.Failing.the-variants.{BadPrimary, BadId, BadManufacturer, BadMedium, BadBaud, BadFault}
 use Rattle.segment.specs.Plain.{Plain}
+use Rattle.segment_send.specs.View.{sendingNumber}
+use Rattle.segment_send.specs.declared.Sending.{Sending}
+use Rattle.segment_send.specs.declared.Sending.the-variants as sending
 use Rattle.segment_image.specs.Image.{encodeImage, IsImage}
 
 pub image-of : {s t : Plain} {bs : List ℕ} → IsImage s bs → s ≡ t → IsImage t bs
@@ -74,3 +77,11 @@ number-small Length = omega arith
 number-small Capacity = omega arith
 number-small (AtRecord f i) = failing-small f
 number-small Baud = omega arith
+
+-- ---- send: the number
+
+pub sending-small : (a : Sending) → sendingNumber a < 256
+sending-small (sending.Accepted n) = omega arith
+sending-small sending.PieceTooLong = omega arith
+sending-small sending.ClockOutOfRange = omega arith
+sending-small sending.QueueFull = omega arith

@@ -9,6 +9,7 @@ ghost use Rattle.time_clock.specs.Fields.{clockAt};
 ghost use Rattle.segment.specs.Plain.{blank};
 ghost use Rattle.segment.specs.Calls;
 ghost use Rattle.segment_send.specs.Send;
+ghost use Rattle.segment_send.specs.View.{sendingNumber, sendingDue, SentImage};
 ghost use Rattle.segment_image.specs.Image.{decodeImage, imageLen, IsImage};
 ghost use Rattle.segment_image.specs.Answers.{DoneImage, OpenedImage, ReceivedImage, LeftImage};
 ghost use Rattle.c_search.specs.Searches.{searchBy, Searches};
@@ -16,6 +17,7 @@ ghost use Rattle.c_frame.specs.Telegrams.{Parses, telegramBy, Writes};
 use list_check::refusal::Refusal;
 use segment::Segment;
 use segment_image::IMAGE;
+use segment_send::Sending;
 use time_clock::clock_at;
 
 const LEN: usize = IMAGE;
@@ -87,7 +89,17 @@ pub extern "C" fn jezynar_segment_open(
     packed(refusal)
 }
 
+// number * 65536 + due
+fn packed_sent(answer: Sending) -> u32
+    ensures { λ r. ⌜ (r ≡ sendingNumber answer * 65536 + sendingDue answer) × (sendingDue answer < 65536) ⌝ }
+{
+    let number = segment_send::sending_number(answer);
+    let due = segment_send::sending_due(answer);
+    number * 65536 + (due as u32)
+}
+
 // Sends a piece at a clock. 13: piece over 1,024; 14: a clock field out of range; 15: queue would pass 4,096.
+// Accepted, it says how many bytes are due of what waits.
 #[no_mangle]
 pub extern "C" fn jezynar_segment_send(
     image: &mut [u8; IMAGE],
@@ -99,11 +111,11 @@ pub extern "C" fn jezynar_segment_send(
     hour: u32,
     minute: u32,
 ) -> u32
-    ensures { λ r. ⌜ DoneImage (Send.send (now (piece .entry)) (clockAt secs year month day hour minute) (decodeImage (now (image .entry)))) r (now (image .entry)) (now (image .exit)) ⌝ }
+    ensures { λ r. ⌜ SentImage (Send.send (now (piece .entry)) (clockAt secs year month day hour minute) (decodeImage (now (image .entry)))) (r / 65536) (r % 65536) (now (image .entry)) (now (image .exit)) ⌝ }
 {
     let at = clock_at(secs, year, month, day, hour, minute);
     let answer = segment_send::send(image, piece, at);
-    segment_send::sending_number(answer)
+    packed_sent(answer)
 }
 
 // Hands out the least of 32, the lent length and the queued bytes.
@@ -139,8 +151,8 @@ pub extern "C" fn jezynar_segment_search(
 
 // ---- telegrams
 
-// The telegram in front of some bytes: 0 complete, 1 incomplete, 2 to 6 invalid (checksum, stop, header, length,
-// start).
+// The telegram in front of some bytes: 0 complete, 1 + 256 * due incomplete, 2 to 6 invalid (checksum, stop, header,
+// length, start).
 #[no_mangle]
 pub extern "C" fn jezynar_frame_parse(bytes: &[u8], out: &mut [u8; 16]) -> u32
     ensures { λ r. ⌜ Parses (Rattle.frame.specs.Frame.parse (now (bytes .entry))) r (now (out .entry)) (now (out .exit)) ⌝ }

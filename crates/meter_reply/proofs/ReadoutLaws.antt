@@ -12,7 +12,8 @@ use lib.ListN.{length, take, length-append, length-take, length-set}
 use lib.Seq.{set-at, getD-at}
 use Rattle.laws.specs.Words.{if_then_else_, at}
 use Rattle.laws.proofs.Lists.{if-all}
-use Rattle.frame.specs.Frame.{Telegram, long, checksum, incomplete, invalid, encode, sum, parse}
+use Rattle.frame.specs.Frame.{Telegram, long, checksum, invalid, encode, sum, parse}
+use Rattle.frame.specs.Theorems.{Incomplete}
 use Rattle.frame.proofs.RoundTrip.{longWith, with-wrong, length-long, parseLong-waits}
 use Rattle.numbers.specs.Values.{little, bcd}
 use Rattle.meter_identity.specs.Identity.{idBytes}
@@ -77,7 +78,7 @@ module _ (c a ci : ℕ) (d : List ℕ) where
   pub flipped-fails : parse (damaged Checksum (encode (long c a ci d))) ≡ invalid checksum
   flipped-fails = rw flipped (with-wrong c a ci d (bitXor (sum (c ∷ a ∷ ci ∷ d)) 0x5A) [] (flip-other (sum (c ∷ a ∷ ci ∷ d))))
 
-  pub cut-waits : parse (damaged Truncated (encode (long c a ci d))) ≡ incomplete
+  pub cut-waits : Incomplete (damaged Truncated (encode (long c a ci d)))
   unfolding damaged encode parse
   cut-waits = go (length (encode (long c a ci d)) / 2 - 4) (omega (arith, length-long c a ci d)) (omega (arith, length-long c a ci d))
     where
@@ -85,9 +86,9 @@ module _ (c a ci : ℕ) (d : List ℕ) where
       tail = c ∷ a ∷ ci ∷ (d ++ sum (c ∷ a ∷ ci ∷ d) ∷ 0x16 ∷ [])
 
       go : (n : ℕ) → length (encode (long c a ci d)) / 2 ≡ suc (suc (suc (suc n))) → n + 4 < length d + 9
-          → parse (take (length (encode (long c a ci d)) / 2) (encode (long c a ci d))) ≡ incomplete
+          → Incomplete (take (length (encode (long c a ci d)) / 2) (encode (long c a ci d)))
       go n f h =
-          rw f (parseLong-waits (0x68 ∷ (length d + 3) ∷ (length d + 3) ∷ 0x68 ∷ take n tail) (omega arith) refl refl (omega arith) (omega (arith, length-take n tail)))
+          rw f (_, parseLong-waits (0x68 ∷ (length d + 3) ∷ (length d + 3) ∷ 0x68 ∷ take n tail) (omega arith) refl refl (omega arith) (omega (arith, length-take n tail)))
 
 -- ---- the length of a readout
 

@@ -9,7 +9,8 @@ use lib.Ieee.{Float}
 use lib.ListN.{length, length-append}
 use borrow.Author.Tests.{eq-eqb, le-leb, lt-ltb, le-ltb, leb-true, leb-false}
 use Rattle.laws.specs.Words.{if_then_else_, Every}
-use Rattle.frame.specs.Frame.{Telegram, long, Why, checksum, complete, incomplete, invalid, parse, encode}
+use Rattle.frame.specs.Frame.{Telegram, long, Why, checksum, complete, invalid, parse, encode}
+use Rattle.frame.specs.Theorems.{Incomplete}
 use Rattle.frame.proofs.RoundTrip.{parse-encode}
 use Rattle.meter_identity.specs.Identity.{idBytes, nibbles}
 use Rattle.meter_identity.proofs.IdentityLaws.{nibbles-id}
@@ -35,9 +36,9 @@ entry-whole : (p : List ℕ) (t : Telegram) → entryOf p (encode t) ≡ (if goo
 unfolding entryOf
 entry-whole p t = rw (parse-alone t, entryOf, eq-eqb (length (encode t)) (length (encode t)) refl)
 
-entry-waits : (p bs : List ℕ) → parse bs ≡ incomplete → entryOf p bs ≡ mute p
+entry-waits : (p bs : List ℕ) → Incomplete bs → entryOf p bs ≡ mute p
 unfolding entryOf
-entry-waits p bs e = rw (e, entryOf)
+entry-waits p bs w = let e = w .1 in rw (e, entryOf)
 
 entry-fails : (p bs : List ℕ) (w : Why) → parse bs ≡ invalid w → entryOf p bs ≡ mute p
 unfolding entryOf

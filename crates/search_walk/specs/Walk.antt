@@ -66,7 +66,7 @@ unfoldable pub entryOf : List ℕ → List ℕ → Entry
 entryOf p reply =
     elim (parse reply) [
       | complete t used ↦ (if eqb used (length reply) && good p t then one (idOf t) else mute p)
-      | incomplete ↦ mute p
+      | incomplete n ↦ mute p
       | invalid why ↦ mute p
     ]
 

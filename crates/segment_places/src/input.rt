@@ -54,6 +54,15 @@ pub fn discard(image: &mut [u8; IMAGE])
     }
 }
 
+// What waits.
+pub fn waiting(image: &[u8; IMAGE]) -> &[u8]
+    ensures { λ r. ⌜ now r ≡ decodeImage (now (image .entry)) .input ⌝ }
+{
+    let n = head::waiting_of(image);
+    let whole = &image[..];
+    &whole[INPUT_AT..INPUT_AT + n]
+}
+
 fn blank_line() -> [u8; LINE] {
     [0u8; LINE]
 }

@@ -1,4 +1,5 @@
 pub mod DoneLaws
+pub mod DueLaws
 pub mod SendLaws
 pub mod SentLaws
 pub mod TelegramLaws

@@ -100,7 +100,7 @@ steps-enough (suc n) (suc m) k s h l = go (parse (s .input)) refl (steps-enough 
         let u = used-some (s .input) t used e in
         let d = length-drop used (s .input) in
         rw (e, steps) (ih (handled t k (drop used (s .input)) s) (omega arith) (omega arith))
-    go incomplete e ih = rw (e, steps)
+    go (incomplete m) e ih = rw (e, steps)
     go (invalid why) e ih = rw (e, steps)
 
 -- so the input is handled telegram by telegram
@@ -116,9 +116,9 @@ handledAll-complete k s t used e = go (length (s .input)) refl
         let d = length-drop used (s .input) in
         rw (e, steps) (steps-enough n (length (drop used (s .input))) k (handled t k (drop used (s .input)) s) (omega arith) (omega arith))
 
-pub handledAll-incomplete : (k : Clock) (s : Plain) → parse (s .input) ≡ incomplete → handledAll k s ≡ s
+pub handledAll-incomplete : (k : Clock) (s : Plain) {m : ℕ} → parse (s .input) ≡ incomplete m → handledAll k s ≡ s
 unfolding handledAll steps
-handledAll-incomplete k s e = go (length (s .input))
+handledAll-incomplete k s {m} e = go (length (s .input))
   where
     go : (n : ℕ) → steps n k s ≡ s
     go zero = refl
@@ -154,7 +154,7 @@ steps-keeps P f g (suc n) k s p = go (parse (s .input)) refl (steps-keeps P f g 
   where
     go : (r : Parsed) → parse (s .input) ≡ r → ((u : Plain) → P u → P (steps n k u)) → P (steps (suc n) k s)
     go (complete t used) e ih = rw (e, steps) (ih (handled t k (drop used (s .input)) s) (f t k (drop used (s .input)) s p))
-    go incomplete e ih = rw (e, steps) p
+    go (incomplete m) e ih = rw (e, steps) p
     go (invalid why) e ih = rw (e, steps) (g s p)
 
 -- what holds of a segment, and of one that took its steps with a queue that fits, holds after a send

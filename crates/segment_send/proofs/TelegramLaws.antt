@@ -104,7 +104,7 @@ module _ {k : Clock} {bytes old : List ℕ} where
         }
 
     -- what is left waits
-    pub left-waits : {new : List ℕ} → pos ≤ length bytes → parse (drop pos bytes) ≡ incomplete → Becomes mid (withInput (drop pos bytes) now) new → Comes (all k bytes old) (length bytes / 5) old true new
+    pub left-waits : {new : List ℕ} {m : ℕ} → pos ≤ length bytes → parse (drop pos bytes) ≡ incomplete m → Becomes mid (withInput (drop pos bytes) now) new → Comes (all k bytes old) (length bytes / 5) old true new
     left-waits h e b = ends h (sym (l .is) ∙ handledAll-incomplete k (withInput (drop pos bytes) now) e) refl b
 
     -- all remaining input is discarded
@@ -131,7 +131,7 @@ module _ {rest bs : List ℕ} {o : ParseOutcome} (r : rest ≡ bs) (e : parsedOf
   pub parsed-complete : {frame : Frame} {len used : ℕ} {d : List ℕ} → o ≡ Complete frame len used → d ≡ dataAt rest len → parse bs ≡ complete (telegramOf frame d) used
   parsed-complete {frame} {len} {used} {d} is f = ap parse (sym r) ∙ sym e ∙ ap (parsedOf rest) is ∙ ap (λ x. complete (telegramOf frame x) used) (sym f)
 
-  pub parsed-incomplete : o ≡ Incomplete → parse bs ≡ incomplete
+  pub parsed-incomplete : {m : ℕ} → o ≡ Incomplete m → parse bs ≡ incomplete m
   parsed-incomplete is = ap parse (sym r) ∙ sym e ∙ ap (parsedOf rest) is
 
   pub parsed-invalid : {why : declared-why.Why} → o ≡ Invalid why → parse bs ≡ invalid (whyOf why)

@@ -2,10 +2,11 @@
 use mathlib.Core.Bool.{not}
 use mathlib.Core.List.{List, _++_}
 use Prim.Native.Nat.{ℕ}
-use lib.Dec.{ltb}
+use lib.Dec.{eqb, ltb}
 use lib.ListN.{length}
 use Rattle.laws.specs.Words.{if_then_else_}
-use Rattle.laws.specs.Refusal.{refusedPiece, refusedClock, refusedQueue}
+use Rattle.laws.specs.Refusal.{notRefused, refusedPiece, refusedClock, refusedQueue}
+use Rattle.frame.specs.Frame.{due, parse}
 use Rattle.time_clock.specs.declared.Clock.{Clock}
 use Rattle.time_clock.specs.Fields.{goodClock}
 use Rattle.segment.specs.Plain.{Plain, withInput}
@@ -23,3 +24,7 @@ send piece k s =
     if ltb 1024 (length piece) then refused refusedPiece s else
     if not (goodClock k) then refused refusedClock s else
     fitsQueue s (handledAll k (withInput (s .input ++ piece) s))
+
+-- Req 01: "Send hands this number on for what waits after it; a refused send gives 0."
+abbrev pub dueAfter : Done → ℕ
+dueAfter d = if eqb (d .number) notRefused then due (parse (d .segment .input)) else 0

@@ -14,7 +14,7 @@ steps zero k s = s
 steps (suc n) k s =
     elim (parse (s .input)) [
       | complete t used ↦ steps n k (handled t k (drop used (s .input)) s)
-      | incomplete ↦ s
+      | incomplete m ↦ s
       | invalid why ↦ withInput [] s
     ]
 

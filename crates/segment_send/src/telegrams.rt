@@ -35,7 +35,7 @@ fn handle_in_turn(image: &mut [u8; IMAGE], bytes: &[u8], clock: Clock) -> bool
                 }
                 pos += used;
             }
-            ParseOutcome::Incomplete => {
+            ParseOutcome::Incomplete { due: _ } => {
                 input::keep(image, rest);
                 return true;
             }

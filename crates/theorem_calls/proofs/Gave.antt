@@ -18,6 +18,7 @@ use Rattle.segment.specs.Plain.{Plain}
 use Rattle.segment.specs.Calls as plain
 use Rattle.segment.specs.Calls.{receive, clear, changeBaud}
 use Rattle.segment_send.specs.Send.{send}
+use Rattle.segment_send.specs.View.{SentImage}
 use Rattle.segment_image.specs.Image.{decodeImage, encodeImage, Exact}
 use Rattle.segment_image.specs.Answers.{doneBy, DoneImage, OpenedImage, receivedBy, ReceivedImage, LeftImage}
 use Rattle.search.specs.declared.EntryRecord.{EntryRecord}
@@ -34,7 +35,7 @@ use Rattle.theorem_calls.specs.Read.{BytesIn, RecordsIn, Reads}
 -- a call on the image bs, in the memory σ, returned r and left the memory σ₁ and the image cs
 abbrev pub Gave : Call → List ℕ → Memory → Val → Memory → List ℕ → Type 0
 Gave (opening list bus practice origin) bs σ r σ₁ cs = (n : ℕ) × (r ≡ vint w32 n) × BytesIn σ₁ (length σ) list × OpenedImage list bus practice origin (n % 256) (n / 256) bs cs
-Gave (sending piece k) bs σ r σ₁ cs = (n : ℕ) × (r ≡ vint w32 n) × BytesIn σ₁ (length σ) piece × DoneImage (send piece k (decodeImage bs)) n bs cs
+Gave (sending piece k) bs σ r σ₁ cs = (n : ℕ) × (r ≡ vint w32 n) × BytesIn σ₁ (length σ) piece × SentImage (send piece k (decodeImage bs)) (n / 65536) (n % 65536) bs cs
 Gave (receiving xs) bs σ r σ₁ cs = (n : ℕ) × (ys : List ℕ) × (r ≡ vint w64 n) × BytesIn σ₁ (length σ) ys × ReceivedImage (receive xs (decodeImage bs)) n ys bs cs
 Gave clearing bs σ r σ₁ cs = (r ≡ vunit) × LeftImage (clear (decodeImage bs)) bs cs
 Gave (changing baud) bs σ r σ₁ cs = (n : ℕ) × (r ≡ vint w32 n) × DoneImage (changeBaud baud (decodeImage bs)) n bs cs
@@ -48,7 +49,7 @@ Gave (searchingInto k allowance lent) bs σ r σ₁ cs = (x : Searched) × (es :
 pub means : (c : Call) (bs : List ℕ) (σ : Memory) (r : Val) (σ₁ : Memory) (cs : List ℕ) → Gave c bs σ r σ₁ cs → decodeImage cs ≡ afterCall c (decodeImage bs)
 unfolding afterCall doneBy receivedBy searchedOf
 means (opening list bus practice origin) bs σ r σ₁ cs g = g .3 .segment
-means (sending piece k) bs σ r σ₁ cs g = ap (λ (d : plain.Done). d .segment) (g .3 .answer)
+means (sending piece k) bs σ r σ₁ cs g = ap (λ (d : plain.Done). d .segment) (g .3 .done .answer)
 means (receiving xs) bs σ r σ₁ cs g = ap (λ (d : plain.Received). d .segment) (g .4 .answer)
 means clearing bs σ r σ₁ cs g = g .1 .segment
 means (changing baud) bs σ r σ₁ cs g = ap (λ (d : plain.Done). d .segment) (g .2 .answer)
@@ -66,7 +67,7 @@ opened-exact n bs cs s e z k x = go (eqb n 0) refl
 -- it is the one image of that segment
 pub exact : (c : Call) (bs : List ℕ) (σ : Memory) (r : Val) (σ₁ : Memory) (cs : List ℕ) → Gave c bs σ r σ₁ cs → Exact bs → Exact cs
 exact (opening list bus practice origin) bs σ r σ₁ cs g x = opened-exact (g .0 % 256) bs cs _ (g .3 .segment) (g .3 .bytes) (g .3 .kept) x
-exact (sending piece k) bs σ r σ₁ cs g x = g .3 .exact x
+exact (sending piece k) bs σ r σ₁ cs g x = g .3 .done .exact x
 exact (receiving xs) bs σ r σ₁ cs g x = g .4 .exact x
 exact clearing bs σ r σ₁ cs g x = g .1 .exact x
 exact (changing baud) bs σ r σ₁ cs g x = g .2 .exact x
@@ -93,7 +94,9 @@ module _ (bs : List ℕ) (σ : Memory) (r : Val) (σ₁ : Memory) (cs : List ℕ
 
   answers-send : (piece : List ℕ) (k : Clock) → Gave (sending piece k) bs σ r σ₁ cs → Answered (sending piece k) bs σ r σ₁
   unfolding doneBy
-  answers-send piece k g = (sent (g .0), (g .0, g .1, g .2, refl), ap (λ (d : plain.Done). sent (d .number)) (g .3 .answer))
+  answers-send piece k g =
+      let e : g .0 / 65536 ≡ (send piece k (decodeImage bs)) .number = ap (λ (d : plain.Done). d .number) (g .3 .done .answer) in
+      (sent (g .0 / 65536) (g .0 % 65536), (g .0, g .1, g .2, refl), λ j. sent (e j) (g .3 .due-is j))
 
   answers-receive : (lent : List ℕ) → Gave (receiving lent) bs σ r σ₁ cs → Answered (receiving lent) bs σ r σ₁
   unfolding receivedBy

@@ -23,6 +23,7 @@ use Rattle.time_clock.specs.declared.Clock.{Clock}
 use Rattle.segment.specs.Plain.{blank}
 use Rattle.segment.specs.Calls.{receive, clear, changeBaud}
 use Rattle.segment_send.specs.Send.{send}
+use Rattle.segment_send.specs.View.{SentImage}
 use Rattle.segment_image.specs.Image.{decodeImage, IsImage}
 use Rattle.segment_image.specs.Answers.{DoneImage, OpenedImage, ReceivedImage, LeftImage}
 use Rattle.time_clock.proofs.Clock.Laws as clock-laws
@@ -146,7 +147,7 @@ module _ {M : Type 1} (𝓤 : URA M) (H : Heap 𝓤) (𝓜 : Model 𝓤 H) (𝓖
     pub send-ends : (piece : List ℕ) (k : Clock) → FitCall (sending piece k) → ∥ Ends b (sending piece k) bs σ G ∥₁
     send-ends piece k f =
         let as′ : List (Arg 𝓤 H (𝓖 .A)) = image ∷ shared-bytes 𝓤 H 𝓜 𝓖 𝓡 (length σ) piece (f .0 .1) ∷ clock-then 𝓤 H 𝓜 𝓖 𝓡 k (f .1) [] in
-        let φ : ℕ → Values 𝓤 H (𝓖 .A) as′ → Type 0 = λ r w. DoneImage (send piece k (decodeImage bs)) r bs (w .0) in
+        let φ : ℕ → Values 𝓤 H (𝓖 .A) as′ → Type 0 = λ r w. SentImage (send piece k (decodeImage bs)) (r / 65536) (r % 65536) bs (w .0) in
         let Xs : SProp 𝓤 = Bytes 𝓤 H 𝓜 𝓖 𝓡 (length σ) piece in
         ∥∥₁-elim (holds-bytes 𝓤 H 𝓜 𝓖 𝓡 σ (sep 𝓤 (Im bs) G) s piece (f .0 .0)) ∥∥₁-prop (λ there.
         ∥∥₁-elim (called 𝓤 H 𝓜 𝓖 𝓡 send-contract.signature send-routine (send-contract.spec 𝓤 H (𝓖 .A) (𝓜 .mem) (𝓡 .run)) (send-met.met 𝓤 H 𝓜 𝓖 𝓡) as′

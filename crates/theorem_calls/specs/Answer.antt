@@ -9,7 +9,7 @@ use Rattle.laws.specs.Words.{if_then_else_, each}
 use Rattle.list_open.specs.Opening.{OpeningGives, openList}
 use Rattle.segment.specs.Plain.{Plain}
 use Rattle.segment.specs.Calls.{receive, changeBaud}
-use Rattle.segment_send.specs.Send.{send}
+use Rattle.segment_send.specs.Send.{send, dueAfter}
 use Rattle.search_walk.specs.Walk.{wholeWalk}
 use Rattle.search.specs.declared.EntryRecord.{EntryRecord}
 use Rattle.search.specs.SearchCall.{Searched, searchCall}
@@ -18,14 +18,14 @@ use Rattle.c_search.specs.Searches.{searchBy, recordsFor, entryBytes, summaryOf
 use Rattle.theorem_calls.specs.Call.{Call, opening, sending, receiving, clearing, changing, searching, searchingInto}
 
 -- opened: number, index
--- sent: number
+-- sent: number, how many bytes are due
 -- received: how many bytes, the lent bytes afterwards
 -- changed: number
 -- searched: number, the bytes lent for entries afterwards, the summary afterwards
 -- searchedInto: number, count, probes, spent, the lent records afterwards
 pub data Answer : Type 0 where
   opened : ℕ → ℕ → Answer
-  sent : ℕ → Answer
+  sent : ℕ → ℕ → Answer
   received : ℕ → List ℕ → Answer
   cleared : Answer
   changed : ℕ → Answer
@@ -40,10 +40,11 @@ entriesAfter r entries = each (take (r .count) (r .lent)) entryBytes ++ drop (16
 abbrev pub summaryAfter : Searched → List ℕ → List ℕ
 summaryAfter r summary = if eqb (r .number) 0 then summaryOf (r .count) (r .probes) (r .spent) else summary
 
--- 01's answer to a call on the segment s: "which record is free" for a refused opening; everything else is given
+-- 01's answer to a call on the segment s, a send's with the number of Req 01: "which record is free" for a refused
+-- opening; everything else is given
 abbrev pub Gives : Plain → Call → Answer → Type 0
 Gives s (opening list bus practice origin) a = (n : ℕ) × (i : ℕ) × (a ≡ opened n i) × OpeningGives (openList list bus practice) n i
-Gives s (sending piece k) a = a ≡ sent ((send piece k s) .number)
+Gives s (sending piece k) a = let d = send piece k s in a ≡ sent (d .number) (dueAfter d)
 Gives s (receiving lent) a = let r = receive lent s in a ≡ received (r .count) (r .lent)
 Gives s clearing a = a ≡ cleared
 Gives s (changing baud) a = a ≡ changed ((changeBaud baud s) .number)

@@ -25,11 +25,11 @@ RecordsIn σ b es = Loads record-ty record-value σ b 0 es
 
 -- A call that was made in the memory σ returned r, and the memory is then σ′: that is the answer a. What is lent lies
 -- where `Runs` puts it.
--- An opening's number stands in the low byte of what it returns, its index above. A list and a piece, which are lent to
--- be read alone, are there as they were.
+-- An opening's number stands in the low byte of what it returns, its index above; a send's in the high half, and how
+-- many bytes are due in the low one. A list and a piece, which are lent to be read alone, are there as they were.
 abbrev pub Reads : Call → Memory → Val → Memory → Answer → Type 0
 Reads (opening list bus practice origin) σ r σ′ a = (n : ℕ) × (r ≡ vint w32 n) × BytesIn σ′ (length σ) list × (a ≡ opened (n % 256) (n / 256))
-Reads (sending piece k) σ r σ′ a = (n : ℕ) × (r ≡ vint w32 n) × BytesIn σ′ (length σ) piece × (a ≡ sent n)
+Reads (sending piece k) σ r σ′ a = (n : ℕ) × (r ≡ vint w32 n) × BytesIn σ′ (length σ) piece × (a ≡ sent (n / 65536) (n % 65536))
 Reads (receiving lent) σ r σ′ a = (n : ℕ) × (bs : List ℕ) × (r ≡ vint w64 n) × BytesIn σ′ (length σ) bs × (a ≡ received n bs)
 Reads clearing σ r σ′ a = (r ≡ vunit) × (a ≡ cleared)
 Reads (changing baud) σ r σ′ a = (n : ℕ) × (r ≡ vint w32 n) × (a ≡ changed n)

@@ -31,7 +31,10 @@ pub fn lend(n: usize) -> Vec<u8> {
 
 #[derive(Clone, Debug, PartialEq)]
 pub struct Answer {
+    /// Of a send and of a telegram that is read, without the bytes due.
     pub returned: u64,
+    /// How many bytes are due, after a send and of an incomplete telegram; else 0.
+    pub due: u64,
     /// Each lent memory afterwards, with its guard.
     pub lent: Vec<Vec<u8>>,
 }
@@ -149,6 +152,9 @@ impl fmt::Display for Call {
 impl fmt::Display for Answer {
     fn fmt(&self, f: &mut fmt::Formatter) -> fmt::Result {
         write!(f, "{}", self.returned)?;
+        if self.due > 0 {
+            write!(f, ", {} due", self.due)?;
+        }
         for lent in &self.lent {
             let written = lent.iter().rposition(|b| *b != FILL).map_or(0, |k| k + 1);
             write!(f, " [{}]", hex(&lent[..written]))?;

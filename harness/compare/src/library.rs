@@ -92,7 +92,12 @@ impl Side for Library {
                 jezynar_frame_encode(*kind, *control, *address, *ci, start(data), data.len(), out(*lent), *lent) as u64
             },
         };
-        Answer { returned, lent: lent_out }
+        let (returned, due) = match call {
+            Call::Send { .. } => (returned / 65_536, returned % 65_536),
+            Call::Parse { .. } => (returned % 256, returned / 256),
+            _ => (returned, 0),
+        };
+        Answer { returned, due, lent: lent_out }
     }
 
     fn state(&self) -> State {

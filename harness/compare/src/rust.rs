@@ -1,7 +1,7 @@
 //! The Rust's side: the unchanged Rust, with what 01 and the differences' page add to it, in the library's form.
 use crate::calls::{lend, origin_bits, Answer, Call, Side, State};
 use oracle::mbus::frame::{self, Frame, Parse};
-use reference::{Clock, Entry, Segment};
+use reference::{due, Clock, Entry, Segment};
 
 /// The most data that a long telegram's length byte can tell.
 const DATA: usize = 252;
@@ -35,8 +35,19 @@ impl Rust {
             put(&mut summary, 4, found.probes as usize);
             put(&mut summary, 8, found.spent as usize);
         }
-        Answer { returned: found.number as u64, lent: vec![out, summary] }
+        Answer { returned: found.number as u64, due: 0, lent: vec![out, summary] }
     }
+
+    /// The Rust does not say how many bytes are due: they are counted for the input that waits in it.
+    fn send(&mut self, piece: &[u8], clock: Clock) -> Answer {
+        let number = self.segment.send(piece, clock);
+        let due = if number == 0 { counted(&self.segment.view().input) } else { 0 };
+        Answer { returned: number as u64, due, lent: Vec::new() }
+    }
+}
+
+fn counted(bytes: &[u8]) -> u64 {
+    due(bytes).expect("an incomplete telegram") as u64
 }
 
 /// A number of four bytes, low byte first.
@@ -46,6 +57,7 @@ fn put(bytes: &mut [u8], at: usize, n: usize) {
 
 fn parse(bytes: &[u8]) -> Answer {
     let mut out = lend(16);
+    let mut due = 0;
     let returned = match frame::parse(bytes) {
         Parse::Complete(f, used) => {
             let (head, count) = match f {
@@ -62,10 +74,13 @@ fn parse(bytes: &[u8]) -> Answer {
             put(&mut out, 12, 0);
             0
         }
-        Parse::Incomplete => 1,
+        Parse::Incomplete => {
+            due = counted(bytes);
+            1
+        }
         Parse::Invalid(why) => 2 + ["checksum", "stop", "header", "length", "start"].iter().position(|w| *w == why).unwrap() as u64,
     };
-    Answer { returned, lent: vec![out] }
+    Answer { returned, due, lent: vec![out] }
 }
 
 /// The Rust writes a length byte modulo 256 for data over 252, which EN 13757-2 does not know: 11.
@@ -80,22 +95,22 @@ fn encode(frame: Frame, lent: usize) -> Answer {
         out[..bytes.len()].copy_from_slice(&bytes);
         bytes.len() as u64
     };
-    Answer { returned, lent: vec![out] }
+    Answer { returned, due: 0, lent: vec![out] }
 }
 
 impl Side for Rust {
     fn answer(&mut self, call: &Call) -> Answer {
-        let plain = |returned: u64| Answer { returned, lent: Vec::new() };
+        let plain = |returned: u64| Answer { returned, due: 0, lent: Vec::new() };
         match call {
             Call::Open { list, baud, practice, origin } => {
                 let (number, index) = self.segment.open(list, *baud, *practice, *origin);
                 plain(number as u64 + 256 * index as u64)
             }
-            Call::Send { piece, clock } => plain(self.segment.send(piece, *clock) as u64),
+            Call::Send { piece, clock } => self.send(piece, *clock),
             Call::Receive { lent } => {
                 let mut out = lend(*lent);
                 let n = self.segment.receive(&mut out[..*lent]);
-                Answer { returned: n as u64, lent: vec![out] }
+                Answer { returned: n as u64, due: 0, lent: vec![out] }
             }
             Call::Clear => {
                 self.segment.clear();

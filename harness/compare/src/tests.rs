@@ -1,4 +1,5 @@
-//! That a failing list is shrunk to the least, that faults put into the other side are seen, that the directed lists reach the limits.
+//! That a failing list is shrunk to the least, that faults put into the other side are seen, that the directed lists
+//! reach the limits; that the number of bytes due is the least.
 use crate::calls::{hex, run, run_on, transcript, Answer, Call, Counts, Side, State, GUARD};
 use crate::directed;
 use crate::layout::{fields, list_of, records};
@@ -7,6 +8,7 @@ use crate::random::list_of as random_list;
 use crate::rust::Rust;
 use crate::shrink::{shrink, Fails, PLAIN};
 use oracle::mbus::frame::{self, Frame, Parse};
+use reference::{due, Clock};
 use std::collections::HashSet;
 
 /// The first random list of at least `least` calls for which this holds.
@@ -109,6 +111,107 @@ fn an_origin_and_a_number_are_seen() {
     assert!(matches!(&calls[..], [Call::Encode { kind: 2, data, lent: 0, .. }] if data == &[0; 253]), "{calls:?}");
 }
 
+/// One less than is due, of a send.
+fn one_less(call: &Call, a: &mut Answer) {
+    a.due -= (matches!(call, Call::Send { .. }) && a.due > 0) as u64;
+}
+
+/// What the piece by itself would leave due, whatever waited before it.
+fn of_the_piece(call: &Call, a: &mut Answer) {
+    if matches!(call, Call::Send { .. }) && a.returned == 0 {
+        a.due = Rust::new().answer(call).due;
+    }
+}
+
+/// What the first telegram of the piece leaves due, and not what waits behind it.
+fn of_the_first(call: &Call, a: &mut Answer) {
+    if let (Call::Send { piece, .. }, 0) = (call, a.returned) {
+        a.due = due(piece).unwrap_or(1) as u64;
+    }
+}
+
+fn refused_with_one(call: &Call, a: &mut Answer) {
+    a.due += (matches!(call, Call::Send { .. }) && a.returned > 0) as u64;
+}
+
+#[test]
+fn a_number_due_is_seen() {
+    let calls = left(one_less, |_| {});
+    assert!(matches!(&calls[..], [Call::Send { piece, .. }] if piece.is_empty()), "{calls:?}");
+    let calls = left(|call, a| if a.due > 1 { one_less(call, a) }, |_| {});
+    assert!(matches!(&calls[..], [Call::Send { piece, .. }] if matches!(piece[..], [0x10 | 0x68])), "{calls:?}");
+    let calls = left(|call, a| a.due -= (matches!(call, Call::Parse { .. }) && a.due > 1) as u64, |_| {});
+    assert!(matches!(&calls[..], [Call::Parse { bytes }] if matches!(bytes[..], [0x10 | 0x68])), "{calls:?}");
+    // A telegram that is read and is not incomplete has none.
+    let calls = left(|call, a| a.due += (matches!(call, Call::Parse { .. }) && a.returned == 0) as u64, |_| {});
+    assert!(matches!(&calls[..], [Call::Parse { bytes }] if matches!(bytes.len(), 1 | 5 | 9)), "{calls:?}");
+    let calls = left(of_the_piece, |_| {});
+    assert!(matches!(&calls[..], [Call::Send { piece: a, .. }, Call::Send { piece: b, .. }] if a.len() == 1 && b.is_empty()), "{calls:?}");
+    assert!(!left(of_the_first, |_| {}).is_empty());
+    assert!(!left(refused_with_one, |_| {}).is_empty());
+}
+
+/// Each damage by lists that show it and lists that do not.
+#[test]
+fn a_number_due_is_seen_where_it_is_wrong() {
+    let send = |piece: &[u8]| Call::Send { piece: piece.to_vec(), clock: PLAIN };
+    let fails = |damage: fn(&Call, &mut Answer), calls: &[Call]| {
+        run_on(calls, &mut Damaged(Rust::new(), damage, |_| {}), &mut Counts::default(), None).is_err()
+    };
+    let nke = [0x10, 0x40, 1, 0x41, 0x16];
+    let pieces = [send(&nke[..1]), send(&nke[1..3]), send(&nke[3..])];
+    let behind = [send(&[&nke[..], &[0x68, 9]].concat())];
+    let record = [&[1, 2, 0, 0, 0, 0][..], b"\x0812345678\x03KAM\x04heat\x04none"].concat();
+    let open = Call::Open { list: list_of(&vec![record; 64]), baud: 2400, practice: false, origin: 0.0 };
+    let full = [open, send(&nke.repeat(64)), send(&nke)];
+    let refused = [vec![send(&[0x10; 1025])], vec![Call::Send { piece: vec![0x10], clock: Clock { month: 13, ..PLAIN } }], full.to_vec()];
+    for calls in refused.iter().map(Vec::as_slice).chain([&pieces[..], &behind]) {
+        assert!(!fails(|_, _| {}, calls), "{calls:?}");
+    }
+    assert!(fails(one_less, &pieces) && fails(one_less, &behind));
+    // The first piece is alone; the telegram that stands first is complete.
+    assert!(fails(of_the_piece, &pieces) && !fails(of_the_piece, &pieces[..1]) && !fails(of_the_piece, &behind));
+    assert!(fails(of_the_first, &behind) && !fails(of_the_first, &pieces[..1]));
+    for calls in &refused {
+        assert!(fails(refused_with_one, calls), "{calls:?}");
+    }
+    assert!(!fails(refused_with_one, &pieces) && !fails(refused_with_one, &behind));
+}
+
+/// For the Rust's own reader: with fewer bytes than are due a telegram stays incomplete, with as many it need not; what
+/// is not incomplete has none due.
+#[test]
+fn the_number_due_is_the_least() {
+    let with = |front: &[u8], byte: u8, n: usize| frame::parse(&[front, &vec![byte; n]].concat());
+    let bytes = [0, 1, 3, 0x10, 0x16, 0x68, 0xE5, 0xFF];
+    let hold = |front: &[u8]| {
+        let Some(n) = due(front) else {
+            assert_ne!(frame::parse(front), Parse::Incomplete, "{}", hex(front));
+            return;
+        };
+        assert!((0..n).all(|fewer| bytes.iter().all(|b| with(front, *b, fewer) == Parse::Incomplete)), "{}", hex(front));
+        assert!(bytes.iter().any(|b| with(front, *b, n) != Parse::Incomplete), "{}", hex(front));
+    };
+    hold(&[]);
+    for a in 0..=255 {
+        hold(&[a]);
+        for b in 0..=255 {
+            hold(&[a, b]);
+            hold(&[0x68, a, b]);
+            hold(&[0x68, a, b, 0x68]);
+            hold(&[0x68, a, b, 0x16]);
+        }
+        let long = [vec![0x68, a, a, 0x68], vec![0x10; a as usize], vec![a.wrapping_mul(0x10), 0x16]].concat();
+        (4..=long.len()).step_by(31).chain(long.len() - 2..=long.len()).for_each(|k| hold(&long[..k]));
+    }
+    for k in 0..=5 {
+        hold(&[0x10, 0x40, 1, 0x41, 0x16][..k]);
+    }
+    for (front, n) in [(&[][..], 1), (&[0x10], 4), (&[0x68], 3), (&[0x68, 3, 3, 0x68], 5), (&[0x68, 255, 255, 0x68, 0], 256)] {
+        assert_eq!(due(front), Some(n));
+    }
+}
+
 /// A segment with waiting input, a queue and 64 meters: no byte of the image that means something is left out.
 #[test]
 fn every_byte_of_an_image_is_seen() {
@@ -116,7 +219,8 @@ fn every_byte_of_an_image_is_seen() {
     let mut library = Library::new();
     library.answer(&Call::Open { list: list_of(&vec![record; 64]), baud: 2400, practice: false, origin: 1.5 });
     let piece = [[0x10, 0x40, 1, 0x41, 0x16].repeat(64), vec![0x68, 0xFF, 0xFF, 0x68], vec![0x77; 256]].concat();
-    assert_eq!(library.answer(&Call::Send { piece, clock: PLAIN }).returned, 0);
+    let answer = library.answer(&Call::Send { piece, clock: PLAIN });
+    assert_eq!((answer.returned, answer.due), (0, 1));
     let state = library.state();
     assert_eq!((state.input.len(), state.queue.len(), state.meters.len()), (260, 4096, 64));
     // The three counts are seen by the lengths.
@@ -155,8 +259,9 @@ fn limits_are_met() {
     directed::all(&mut |_, list| {
         let mut rust = Rust::new();
         for call in &list {
-            let returned = rust.answer(call).returned;
+            let Answer { returned, due, .. } = rust.answer(call);
             met.extend(call.number(returned).map(|n| (name(call), n as u32)));
+            met.insert((if call.number(returned).is_some() { "due" } else { "due, read" }, due as u32));
             let s = rust.state();
             met.extend([("input", s.input.len() as u32), ("queue", s.queue.len() as u32), ("meters", s.meters.len() as u32)]);
             for m in &s.meters {
@@ -172,6 +277,8 @@ fn limits_are_met() {
     wanted.extend([("search", 14), ("search", 16), ("search", 17), ("part", 1), ("readouts", 2), ("readouts", 3)]);
     wanted.extend((0..=260).map(|n| ("input", n)));
     wanted.extend((0..=255).map(|n| ("access", n)));
+    // The most is what is left of the longest telegram behind its header.
+    wanted.extend((1..=257).flat_map(|n| [("due", n), ("due, read", n)]));
     wanted.extend([0, 1, 4094, 4095, 4096].map(|n| ("queue", n)));
     wanted.extend([0, 1, 62, 63, 64].map(|n| ("meters", n)));
     let missing: Vec<_> = wanted.iter().filter(|w| !met.contains(*w)).collect();

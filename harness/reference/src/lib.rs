@@ -1,9 +1,12 @@
 //! The Rust segment with what 01 adds to it: the meter list's bytes, the refusals by their numbers, and the search
-//! over the Rust's own send and receive. Every byte and every state comes from the unchanged Rust.
+//! over the Rust's own send and receive. Every byte and every state comes from the unchanged Rust. Beside it, how many
+//! bytes are due.
+mod due;
 mod list;
 mod search;
 mod segment;
 
+pub use due::due;
 pub use list::list_bytes;
 pub use search::{Entry, Found};
 pub use segment::{Segment, METERS, PIECE, QUEUE};

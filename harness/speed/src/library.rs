@@ -34,8 +34,10 @@ pub fn open(image: &mut Image, list: &[u8]) -> u32 {
     unsafe { jezynar_segment_open(image.as_mut_ptr(), list.as_ptr(), list.len(), 2400, false, 0.0) }
 }
 
+/// The number alone: the Rust does not say how many bytes are due.
 pub fn send(image: &mut Image, piece: &[u8], c: &Clock) -> u32 {
-    unsafe { jezynar_segment_send(image.as_mut_ptr(), piece.as_ptr(), piece.len(), c.now, c.year, c.month, c.day, c.hour, c.minute) }
+    let answer = unsafe { jezynar_segment_send(image.as_mut_ptr(), piece.as_ptr(), piece.len(), c.now, c.year, c.month, c.day, c.hour, c.minute) };
+    answer / 65_536
 }
 
 pub fn receive(image: &mut Image, lent: &mut [u8]) -> usize {

@@ -23,10 +23,17 @@ fn meters() -> Vec<u8> {
     list::write(&[heat, water, MeterSpec { baud: Some(300), ..water }]).unwrap()
 }
 
-/// A call, which gives the number of its refusal and what was lent, as it is after the call.
+/// A call, which gives the number of its refusal and what it hands out: what was lent, as it is after the call, or how
+/// many bytes are due.
 type Call = fn(&mut Image) -> (u32, Vec<u8>);
 
 const NEVER_REFUSED: (u32, Vec<u8>) = (0, Vec::new());
+
+fn sends(image: &mut Image, piece: &[u8]) -> (u32, Vec<u8>) {
+    let answer = send(image, piece, &CLOCK);
+    // The number, and how many bytes are due.
+    (answer / 65536, (answer % 65536).to_le_bytes().to_vec())
+}
 
 fn receives(image: &mut Image, lent: usize) -> (u32, Vec<u8>) {
     let mut bytes = vec![0xAA; lent];
@@ -64,11 +71,11 @@ const OTHERS: [Call; 15] = [
     |image| receives(image, 40),
     |image| (set_baud(image, 300), vec![]),
     |image| (set_baud(image, 301), vec![]),
-    |image| (send(image, &[], &CLOCK), vec![]),
-    |image| (send(image, &TELEGRAMS, &CLOCK), vec![]),
-    |image| (send(image, &TELEGRAMS[..3], &CLOCK), vec![]),
-    |image| (send(image, &[0x68; 1024], &CLOCK), vec![]),
-    |image| (send(image, &[0x68; 1025], &CLOCK), vec![]),
+    |image| sends(image, &[]),
+    |image| sends(image, &TELEGRAMS),
+    |image| sends(image, &TELEGRAMS[..3]),
+    |image| sends(image, &[0x68; 1024]),
+    |image| sends(image, &[0x68; 1025]),
     |image| searches(image, u32::MAX, 64),
     |image| searches(image, 5, 3),
     |image| searches(image, 5, 2),
@@ -82,7 +89,8 @@ fn images() -> [Image; 3] {
     let mut opened = empty;
     assert_eq!(open(&mut opened, &meters(), 2400, false, f64::NAN), 0);
     let mut busy = opened;
-    assert_eq!(send(&mut busy, &[&TELEGRAMS[..], &[0x68, 0x03, 0x03]].concat(), &CLOCK), 0);
+    // Accepted, and one byte of a long telegram's header is due.
+    assert_eq!(send(&mut busy, &[&TELEGRAMS[..], &[0x68, 0x03, 0x03]].concat(), &CLOCK), 1);
     [empty, opened, busy]
 }
 

@@ -23,6 +23,18 @@ pub fn example(name: &str) -> Vec<u8> {
     std::fs::read(examples().join(name)).expect(name)
 }
 
+/// A program of the crate's own examples/, which `cargo test` builds with the tests, but not where it is told to build
+/// some tests alone.
+pub fn program(name: &str) -> PathBuf {
+    let test = std::env::current_exe().expect("this test's path");
+    let program = test.ancestors().nth(2).expect("the folder of the build").join("examples").join(name);
+    let written = |path: &Path| path.metadata().and_then(|of| of.modified()).ok();
+    let source = Path::new(env!("CARGO_MANIFEST_DIR")).join(format!("examples/{name}.rs"));
+    let current = written(&program).is_some() && written(&program) >= written(&source);
+    assert!(current, "{} is not built from its source: run cargo test for the whole crate", program.display());
+    program
+}
+
 pub fn opened(list: &[u8]) -> Segment {
     Segment::open_list(list, 2400, false, 0.0).expect("a list that opens")
 }

@@ -23,8 +23,17 @@ head-of-requires c κs = search needs
 description-requires : tie.Need-description-requires
 description-requires c κs = search needs
 
-enum-told : tie.Need-enum-told
-enum-told c = search needs
+enum-known-due : tie.Need-enum-known-due
+enum-known-due c = search needs
+
+cast-result : tie.Need-cast-result
+cast-result c = search needs
+
+mul-result : tie.Need-mul-result
+mul-result c = search needs
+
+add-result : tie.Need-add-result
+add-result c = search needs
 
 enum-known-why : tie.Need-enum-known-why
 enum-known-why c = search needs
@@ -55,9 +64,10 @@ returns c =
 
 returns-2 : tie.Need-returns-2
 returns-2 c =
-    let p = c .before .before in
+    let d = c .before in
+    let p = d .before .before in
     let a = p .before .before .args in
-    let e = ap (parsedOf (a .bytes .now)) (sym (c .enum-told .given .1)) ∙ p .parse .ensures .tells in
+    let e = ap (parsedOf (a .bytes .now)) (sym (d .due .given .1)) ∙ p .parse .ensures .tells in
     record { answers = ap parsedNumber e; lent = ap (describedIn (a .out .now)) e }
 
 returns-3 : tie.Need-returns-3
@@ -76,7 +86,10 @@ parse-spec =
     enum-known-frame
     head-of-requires
     description-requires
-    enum-told
+    enum-known-due
+    cast-result
+    mul-result
+    add-result
     enum-known-why
     why-number-requires
     returns

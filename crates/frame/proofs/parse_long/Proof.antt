@@ -4,7 +4,7 @@ use mathlib.Core.Path.{_≡_, refl, sym, ap, _∙_}
 use native.Mathlib.Omega.{arith}
 use Prim.Native.Nat.{ℕ, _+_, _-_}
 use lib.ListN.{take, drop}
-use Rattle.frame.specs.Frame.{sum}
+use Rattle.frame.specs.Frame.{incomplete, sum}
 use Rattle.frame.proofs.Cases.{found, long-few, long-lengths, long-start, long-below, Whole, long-sum, long-stop, long-whole, whole-data}
 use Rattle.frame.proofs.RoundTrip.{parseLong-waits}
 use Rattle.frame.proofs.parse_long.Statement.{statement}
@@ -27,6 +27,12 @@ summed c =
     let w = read (c .before .before) in
     let e : 4 + w .wide .result - 4 ≡ w .wide .result = omega arith in
     c .checksum .ensures ∙ ap (λ n. sum (take n (drop 4 (bytes w)))) e
+
+sub-rest : tie.Need-sub-rest
+sub-rest c = search needs
+
+cast-due : tie.Need-cast-due
+cast-due c = search needs
 
 returns : tie.Need-returns
 returns c = found (sym (long-few _ (c .if1 .taken))) refl
@@ -55,11 +61,17 @@ returns-3 c = found (sym (long-start _ (omega arith) (omega arith) (c .if3 .take
 returns-4 : tie.Need-returns-4
 returns-4 c = found (sym (long-below _ (omega arith) (omega arith) (c .before .if3 .left) (omega arith))) refl
 
-add-if5 : tie.Need-add-if5
-add-if5 c = omega (arith, c .before .before .before .before .before .before .before .shared-slice-known2 .given 1)
+add-all : tie.Need-add-all
+add-all c = omega (arith, c .before .before .before .before .before .before .before .shared-slice-known2 .given 1)
+
+sub-rest-2 : tie.Need-sub-rest-2
+sub-rest-2 c = search needs
+
+cast-due-2 : tie.Need-cast-due-2
+cast-due-2 c = record { fits = omega (arith, c .before .before .before .before .before .before .before .before .shared-slice-known2 .given 1) }
 
 returns-5 : tie.Need-returns-5
-returns-5 c = found (sym (parseLong-waits _ (omega arith) (omega arith) (c .before .before .if3 .left) (omega arith) (omega arith))) refl
+returns-5 c = found (ap incomplete (omega arith) ∙ sym (parseLong-waits _ (omega arith) (omega arith) (c .before .before .if3 .left) (omega arith) (omega arith))) refl
 
 add-checksum : tie.Need-add-checksum
 add-checksum c = search needs
@@ -96,17 +108,14 @@ returns-7 c =
     let t = c .before .before .before .before in
     found (sym (long-stop _ _ (whole (t .before .before)) (c .before .before .if6 .left ∙ summed t) (c .if7 .taken))) refl
 
-shared-slice-read-t7 : tie.Need-shared-slice-read-t7
-shared-slice-read-t7 c = search needs
+shared-slice-read-t13 : tie.Need-shared-slice-read-t13
+shared-slice-read-t13 c = search needs
 
-shared-slice-read-t23 : tie.Need-shared-slice-read-t23
-shared-slice-read-t23 c = search needs
+shared-slice-read-t30 : tie.Need-shared-slice-read-t30
+shared-slice-read-t30 c = search needs
 
-shared-slice-read-t25 : tie.Need-shared-slice-read-t25
-shared-slice-read-t25 c = search needs
-
-add-t13 : tie.Need-add-t13
-add-t13 c = search needs
+shared-slice-read-t32 : tie.Need-shared-slice-read-t32
+shared-slice-read-t32 c = search needs
 
 returns-8 : tie.Need-returns-8
 returns-8 c =
@@ -118,6 +127,8 @@ pub parse-long-spec : {M : Type 1} → statement M
 parse-long-spec =
     tie.close
     (tie.spec
+    sub-rest
+    cast-due
     returns
     shared-slice-read-wide
     wide-requires
@@ -127,7 +138,9 @@ parse-long-spec =
     shared-slice-read-if3
     returns-3
     returns-4
-    add-if5
+    add-all
+    sub-rest-2
+    cast-due-2
     returns-5
     add-checksum
     sub-checksum
@@ -140,8 +153,7 @@ parse-long-spec =
     add-if7
     shared-slice-read-if7
     returns-7
-    shared-slice-read-t7
-    shared-slice-read-t23
-    shared-slice-read-t25
-    add-t13
+    shared-slice-read-t13
+    shared-slice-read-t30
+    shared-slice-read-t32
     returns-8)

@@ -1,10 +1,17 @@
 use borrow.Author.Needs.{needs}
-use mathlib.Core.Path.{refl, sym, _∙_}
+use mathlib.Core.Path.{refl, sym, ap, _∙_}
+use native.Mathlib.Omega.{arith}
 use borrow.Author.Tests.{lt-ltb, le-ltb, eq-eqb, ne-eqb}
-use Rattle.frame.specs.Frame.{parseShort}
+use Rattle.frame.specs.Frame.{incomplete, parseShort}
 use Rattle.frame.proofs.Cases.{sum-two, found}
 use Rattle.frame.proofs.parse_short.Statement.{statement}
 use Rattle.frame.proofs.parse_short.Tie as tie
+
+sub-rest : tie.Need-sub-rest
+sub-rest c = search needs
+
+cast-due : tie.Need-cast-due
+cast-due c = search needs
 
 returns : tie.Need-returns
 unfolding parseShort
@@ -41,6 +48,8 @@ pub parse-short-spec : {M : Type 1} → statement M
 parse-short-spec =
     tie.close
     (tie.spec
+    sub-rest
+    cast-due
     returns
     shared-slice-read-c
     shared-slice-read-a

@@ -1,4 +1,5 @@
 //! Lists of calls that go to every limit, and through all short inputs.
+mod due;
 mod openings;
 mod searches;
 mod sends;
@@ -19,6 +20,7 @@ pub fn all(each: Each) {
     openings::lists(each);
     sends::lists(each);
     waiting::lists(each);
+    due::lists(each);
     times::lists(each);
     searches::lists(each);
     telegrams::lists(each);
@@ -106,6 +108,10 @@ fn set_baud(baud: u32) -> Call {
 
 fn search(allowance: u32, entries: usize) -> Call {
     Call::Search { clock: PLAIN, allowance, lent: entries * 16 }
+}
+
+fn parse(bytes: impl Into<Vec<u8>>) -> Call {
+    Call::Parse { bytes: bytes.into() }
 }
 
 /// Bytes with one of them changed.

@@ -7,10 +7,6 @@ pub fn lists(each: Each) {
     written(each);
 }
 
-fn parse(bytes: impl Into<Vec<u8>>) -> Call {
-    Call::Parse { bytes: bytes.into() }
-}
-
 fn encode(kind: u8, fields: [u8; 3], data: &[u8], lent: usize) -> Call {
     Call::Encode { kind, control: fields[0], address: fields[1], ci: fields[2], data: data.to_vec(), lent }
 }

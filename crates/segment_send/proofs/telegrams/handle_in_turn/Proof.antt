@@ -108,7 +108,7 @@ enum-told c = search needs
 -- what is left is an incomplete telegram
 part : (c : tie.After-enum-told Inv-loop μ-loop)
     → let at = c .before .before .before .before in
-    parse (drop (at .loop .pos) (at .before .before .args .bytes .now)) ≡ incomplete
+    parse (drop (at .loop .pos) (at .before .before .args .bytes .now)) ≡ incomplete (c .enum-told .given .0 .0)
 part c =
     let p = c .before .before in
     let at = p .before .before in

@@ -8,11 +8,10 @@ use Rattle.segment.specs.Plain.{withInput}
 use Rattle.segment_send.specs.Steps.{handledAll}
 use Rattle.segment_image.specs.Image.{decodeImage}
 use Rattle.segment_places.proofs.PlaceLaws.{input-short}
-use Rattle.segment_places.proofs.Becoming.{done-as}
-use Rattle.segment_send.specs.Send.{fitsQueue}
+use Rattle.segment_send.proofs.DoneLaws.{comes-as}
 use borrow.Author.Needs.{needs}
-use Rattle.segment_send.proofs.send_joined.Statement.{statement}
-use Rattle.segment_send.proofs.send_joined.Tie as tie
+use Rattle.segment_send.proofs.handle_joined.Statement.{statement}
+use Rattle.segment_send.proofs.handle_joined.Tie as tie
 
 with-piece-requires : tie.Need-with-piece-requires
 with-piece-requires c κs = search needs
@@ -29,14 +28,14 @@ array-share-prefix-line c =
     let room : length (c .before .before .before .with-piece .result) ≡ 1284 = search needs in
     omega (arith, c .before .waiting-of .ensures, input-short (s .args .image .now), s .pre)
 
-slice-aggregate-send-bytes : tie.Need-slice-aggregate-send-bytes
-slice-aggregate-send-bytes c =
+slice-aggregate-handle-all : tie.Need-slice-aggregate-handle-all
+slice-aggregate-handle-all c =
     let s = c .before .before .before .before .before .before .before in
     let room : length (c .before .before .before .before .with-piece .result) ≡ 1284 = search needs in
     sym (length-take-le _ _ (omega (arith, c .before .before .waiting-of .ensures, input-short (s .args .image .now), s .pre)))
 
-send-bytes-requires : tie.Need-send-bytes-requires
-send-bytes-requires c κs = search needs
+handle-all-requires : tie.Need-handle-all-requires
+handle-all-requires c κs = search needs
 
 returns : tie.Need-returns
 returns c =
@@ -47,16 +46,16 @@ returns c =
     let j = c .before .before .before .before .before .with-piece in
     let e : w .result + length piece ≡ length (p .input) + min (length piece) 1024 = omega (arith, w .ensures, s .pre) in
     let line : take (w .result + length piece) (j .result) ≡ p .input ++ piece = ap (λ k. take k (j .result)) e ∙ j .ensures ∙ ap (λ x. p .input ++ x) (take-all 1024 piece (s .pre)) in
-    done-as (ap (λ x. fitsQueue p (handledAll (s .args .clock) (withInput x p))) line) (c .send-bytes .ensures)
+    comes-as (ap (λ x. handledAll (s .args .clock) (withInput x p)) line) (c .handle-all .ensures)
 
-pub send-joined-spec : {M : Type 1} → statement M
-send-joined-spec =
+pub handle-joined-spec : {M : Type 1} → statement M
+handle-joined-spec =
     tie.close
     (tie.spec
     with-piece-requires
     waiting-of-requires
     add-end
     array-share-prefix-line
-    slice-aggregate-send-bytes
-    send-bytes-requires
+    slice-aggregate-handle-all
+    handle-all-requires
     returns)
