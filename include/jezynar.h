@@ -8,9 +8,9 @@
  * Each segment has one image: jezynar_segment_new, jezynar_segment_tidy and an accepted opening write it, and every
  * other call keeps it so. Equal segments then have equal images.
  *
- * A slice crosses as a pointer and its length, an array as a pointer to exactly that many bytes. The image, and a buffer
- * that is written, overlap no other memory of the same call. An empty slice may have any pointer. A thread with 64 KiB
- * of stack is enough for every call. Calls on different images may run at once.
+ * A slice crosses as a pointer and its length, an array as a pointer to exactly that many bytes. The image, and a
+ * buffer that is written, overlap no other memory of the same call. An empty slice may have any pointer. A thread with
+ * 64 KiB of stack is enough for every call. Calls on different images may run at once.
  *
  * A call that can be refused answers 0, or the number of its refusal (enum jezynar_refusal); an opening, a send and the
  * telegram writer answer more than the number, as is said there. A refused call leaves every byte of the image and of
@@ -130,7 +130,8 @@ void jezynar_segment_tidy(uint8_t image[JEZYNAR_IMAGE_LEN]);
  * 2400, so that one stays at another rate. For a site it is false.
  * origin: the instant from which the meters' values grow, on the scale of the clock's secs.
  * Accepted: 0, and the segment is built anew. Refused: number + 256 * index (1 to 10), and the former segment stays in
- * use. The index is that of a failing record, from 0, for 4 to 9; else it is 0. */
+ * use. 1 to 3 are checked before any record, 10 after all of them. For 4 to 9 the first failing record in list order is
+ * named: its index, from 0, with the first of 4 to 9, in this order, that it fails with. Elsewhere the index is 0. */
 uint32_t jezynar_segment_open(uint8_t image[JEZYNAR_IMAGE_LEN], const uint8_t *list, size_t list_len, uint32_t baud,
                               bool practice, double origin);
 
@@ -204,7 +205,8 @@ static inline uint32_t jezynar_search(uint8_t *image, const struct jezynar_clock
                                   allowance, entries, entries_len, summary);
 }
 
-/* Of what an opening answers: the number, and the index of the failing record. */
+/* Of what an opening answers: the number, and the index. For 4 to 9 they are of the first failing record in list order:
+ * its first number, and its place, from 0. Elsewhere the index is 0. */
 static inline uint32_t jezynar_open_number(uint32_t answer)
 {
     return answer % 256;

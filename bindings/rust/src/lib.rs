@@ -144,7 +144,8 @@ impl Segment {
     /// With the practice flag all meters count from the same values, and an own baud that is the bus baud becomes 2400.
     ///
     /// # Errors
-    /// 1 to 10, see [`OpenRefusal`]. The former segment stays in use.
+    /// 1 to 10, see [`OpenRefusal`]: of several failing records the first in list order is named, with its first
+    /// number. The former segment stays in use.
     pub fn open(&mut self, list: &[u8], baud: u32, practice: bool, origin: f64) -> Result<(), OpenRefusal> {
         OpenRefusal::check(ffi::open(&mut self.image, list, baud, practice, origin))
     }

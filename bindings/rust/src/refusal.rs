@@ -8,7 +8,43 @@ const CLOCK: &str = "a clock field is out of range (year 1970..9999, month 1..12
 /// The words for 10, which an opening and a baud change share.
 const RATE: &str = "the bus baud is not one of 300, 600, 1200, 2400, 4800, 9600, 19200 and 38400";
 
-/// Why an opening was refused. The numbers 4 to 9 name a failing record of the list by its index, from 0.
+/// Why an opening was refused.
+///
+/// The numbers 4 to 9 name a record of the list by its index, from 0: the first failing record in list order, with its
+/// first number. 1 to 3 are checked before any record, 10 after all of them, and name none.
+///
+/// # Example
+///
+/// So a list can be corrected from the top. Two records of this one fail, the first of them in two ways; each opening
+/// names what is to be corrected next, until the list is accepted.
+///
+/// ```
+/// use jezynar::list::{self, Medium, MeterSpec};
+/// use jezynar::{OpenRefusal, Segment};
+///
+/// # fn main() -> Result<(), Box<dyn std::error::Error>> {
+/// let good = MeterSpec::new(1, "12345678", "SEN", Medium::Water);
+/// let mut meters = [
+///     good,
+///     MeterSpec { primary: 2, id: "1234569", baud: Some(1), ..good },
+///     MeterSpec { primary: 251, id: "12345699", ..good },
+/// ];
+/// let mut segment = Segment::new();
+/// let mut corrected = Vec::new();
+/// while let Err(refusal) = segment.open(&list::write(&meters)?, 2400, false, 0.0) {
+///     println!("{refusal}");
+///     match refusal {
+///         OpenRefusal::Primary(index) => meters[index].primary = 3,
+///         OpenRefusal::Id(index) => meters[index].id = "12345690",
+///         OpenRefusal::OwnBaud(index) => meters[index].baud = None,
+///         _ => return Err(refusal.into()),
+///     }
+///     corrected.push(refusal);
+/// }
+/// assert_eq!(corrected, [OpenRefusal::Id(1), OpenRefusal::OwnBaud(1), OpenRefusal::Primary(2)]);
+/// # Ok(())
+/// # }
+/// ```
 #[derive(Clone, Copy, Debug, PartialEq, Eq, Hash)]
 pub enum OpenRefusal {
     /// 1: the list has under 3 bytes, or its byte 0 is not 1.
@@ -68,7 +104,7 @@ impl OpenRefusal {
         }
     }
 
-    /// The index of the failing record, from 0, for 4 to 9; else there is none.
+    /// The index of the first failing record in list order, from 0, for 4 to 9; else there is none.
     pub fn index(self) -> Option<usize> {
         match self {
             OpenRefusal::Primary(index)

@@ -1,7 +1,7 @@
 //! Each refusal that a call can give, at its limit where it has one; a refused call leaves the image and what was lent.
 mod common;
 
-use common::{opened, two_water, water, CLOCK, NKE_ALL};
+use common::{example, opened, two_water, water, CLOCK, NKE_ALL};
 use jezynar::frame::{encode, Frame};
 use jezynar::list::{self, Fault, ListError, Medium, MeterSpec};
 use jezynar::{BaudRefusal, Clock, EncodeRefusal, Entry, OpenRefusal, SearchRefusal, Segment, SendRefusal, METERS};
@@ -90,6 +90,182 @@ fn the_last_of_64_records_is_named() {
     let mut meters = [water(1, "12345678"); METERS];
     meters[63].primary = 255;
     assert_eq!(open_refused(&list::write(&meters).unwrap(), 2400), OpenRefusal::Primary(63));
+}
+
+/// A record of any texts, which no type of this crate writes.
+#[derive(Clone, Copy)]
+struct Record {
+    primary: u8,
+    baud: u32,
+    /// Id, manufacturer, medium, fault.
+    texts: [&'static str; 4],
+}
+
+/// The numbers that a record can fail with, in the order of the checks.
+const NUMBERS: [u32; 6] = [4, 5, 6, 7, 8, 9];
+
+const fn passing(primary: u8, id: &'static str) -> Record {
+    Record { primary, baud: 0, texts: [id, "SEN", "water", "none"] }
+}
+
+const PASSING: Record = passing(1, "12345678");
+
+impl Record {
+    /// The record made to fail with this number too.
+    fn failing(mut self, number: u32) -> Self {
+        match number {
+            4 => self.primary = 251,
+            5 => self.texts[0] = "1234567A",
+            6 => self.texts[1] = "Sen",
+            7 => self.texts[2] = "steam",
+            8 => self.baud = 1,
+            9 => self.texts[3] = "no fault",
+            _ => panic!("no record fails with {number}"),
+        }
+        self
+    }
+}
+
+fn list_of(records: &[Record]) -> Vec<u8> {
+    let mut body = Vec::new();
+    for record in records {
+        let mut rest = vec![record.primary, 1];
+        rest.extend(record.baud.to_be_bytes());
+        for text in record.texts {
+            rest.push(text.len() as u8);
+            rest.extend(text.as_bytes());
+        }
+        body.push(rest.len() as u8);
+        body.extend(rest);
+    }
+    let mut list = vec![1];
+    list.extend((body.len() as u16).to_be_bytes());
+    list.extend(body);
+    list
+}
+
+/// The refusal with a number that names a record.
+fn naming(index: usize, number: u32) -> OpenRefusal {
+    let refusal = match number {
+        4 => OpenRefusal::Primary(index),
+        5 => OpenRefusal::Id(index),
+        6 => OpenRefusal::Manufacturer(index),
+        7 => OpenRefusal::Medium(index),
+        8 => OpenRefusal::OwnBaud(index),
+        9 => OpenRefusal::Fault(index),
+        _ => panic!("no record fails with {number}"),
+    };
+    assert_eq!((refusal.number(), refusal.index()), (number, Some(index)));
+    refusal
+}
+
+/// 02: "Where a list has several failing meters, opening names the first in list order with its first number."
+#[test]
+fn the_first_of_three_failing_records_is_named() {
+    let records = [
+        passing(1, "12345678"),
+        passing(2, "12345679").failing(8).failing(9),
+        passing(3, "12345680").failing(4),
+        passing(4, "12345681").failing(7),
+    ];
+    let list = list_of(&records);
+    assert_eq!(list, example("refused_8_first_of_three.list"));
+    let named = open_refused(&list, 2400);
+    // Medium(3) is the last that fails, Primary(2) has the least number, OwnBaud(2) is the record after it, and
+    // Fault(1) a later number of the right one.
+    assert_eq!(named, OpenRefusal::OwnBaud(1));
+    told(&named, 8);
+}
+
+#[test]
+fn of_two_failing_records_the_first_is_named() {
+    const FEW: usize = 5;
+    for (first, second) in NUMBERS.iter().flat_map(|a| NUMBERS.map(|b| (*a, b))) {
+        for later in 1..FEW {
+            for earlier in 0..later {
+                let mut records = [PASSING; FEW];
+                records[earlier] = PASSING.failing(first);
+                records[later] = PASSING.failing(second);
+                assert_eq!(open_refused(&list_of(&records), 2400), naming(earlier, first), "{second} at {later}");
+            }
+        }
+    }
+}
+
+/// Every choice of the numbers in one record.
+#[test]
+fn a_record_is_named_with_its_first_number() {
+    for choice in 1..1 << NUMBERS.len() {
+        let chosen = NUMBERS.into_iter().filter(|number| choice >> (number - NUMBERS[0]) & 1 == 1);
+        let fails = chosen.clone().fold(PASSING, Record::failing);
+        let records = [PASSING, PASSING, fails, PASSING.failing(4)];
+        assert_eq!(open_refused(&list_of(&records), 2400), naming(2, chosen.min().unwrap()));
+    }
+}
+
+/// Every record fails in every way; what is named is corrected, until the list is accepted.
+#[test]
+fn a_list_is_corrected_from_the_top() {
+    let mut left = [&NUMBERS[..]; METERS];
+    let mut segment = busy();
+    for index in 0..METERS {
+        for number in NUMBERS {
+            let records = left.map(|numbers| numbers.iter().fold(PASSING, |record, number| record.failing(*number)));
+            let named = refused(&mut segment, |s| s.open(&list_of(&records), 2400, false, 0.0));
+            assert_eq!(named, naming(index, number));
+            left[index] = &left[index][1..];
+        }
+    }
+    assert_eq!(segment.open(&list_of(&[PASSING; METERS]), 2400, false, 0.0), Ok(()));
+}
+
+#[test]
+fn the_layout_is_checked_before_any_record() {
+    for number in NUMBERS {
+        let fails = PASSING.failing(number);
+        let list = list_of(&[fails, PASSING, PASSING]);
+        let with = |at: usize, byte: u8| {
+            let mut list = list.clone();
+            list[at] = byte;
+            list
+        };
+        // The count of bytes at 2; behind the failing record, the last one's length and that of its last text.
+        let last = list_of(&[fails, PASSING]).len();
+        let text = list.len() - "none".len() - 1;
+        let mut cases = vec![(OpenRefusal::NotAList, with(0, 2))];
+        cases.extend([2, last, text].map(|at| (OpenRefusal::Length, with(at, list[at] - 1))));
+        cases.extend([2, last, text].map(|at| (OpenRefusal::Length, with(at, list[at] + 1))));
+        cases.extend([list[..last + 1].to_vec(), [&list[..], &[0]].concat()].map(|list| (OpenRefusal::Length, list)));
+        // 65 meters, of which one or all fail.
+        let mut many = [PASSING; METERS + 1];
+        for index in [0, 1, METERS - 1, METERS] {
+            many[index] = fails;
+            cases.push((OpenRefusal::TooManyMeters, list_of(&many)));
+            many[index] = PASSING;
+        }
+        cases.push((OpenRefusal::TooManyMeters, list_of(&[fails; METERS + 1])));
+        cases.push((OpenRefusal::Length, [&list_of(&[fails; METERS + 1])[..], &[0]].concat()));
+        for (want, list) in cases {
+            let refusal = open_refused(&list, 2400);
+            assert_eq!((refusal, refusal.index()), (want, None), "{number}");
+        }
+        assert_eq!(open_refused(&list, 2400), naming(0, number));
+    }
+}
+
+#[test]
+fn the_bus_baud_is_checked_after_every_record() {
+    for baud in [0, 2401, u32::MAX] {
+        for number in NUMBERS {
+            for index in [0, 1, METERS - 1] {
+                let mut records = [PASSING; METERS];
+                records[index] = PASSING.failing(number);
+                assert_eq!(open_refused(&list_of(&records), baud), naming(index, number));
+            }
+        }
+        let refusal = open_refused(&list_of(&[PASSING; METERS]), baud);
+        assert_eq!((refusal, refusal.index()), (OpenRefusal::Baud, None));
+    }
 }
 
 #[test]

@@ -74,7 +74,7 @@ fn packed(refusal: Refusal) -> u32
     number + 256 * (index as u32)
 }
 
-// Opens the segment of a list. Refused with 1 to 10.
+// Opens the segment of a list. Refused with 1 to 10; 4 to 9 name the first record that fails.
 #[no_mangle]
 pub extern "C" fn jezynar_segment_open(
     image: &mut [u8; IMAGE],

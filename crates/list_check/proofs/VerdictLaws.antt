@@ -4,6 +4,7 @@ use mathlib.Core.Path.{_≡_, refl, sym, ap, _∙_}
 use mathlib.Core.Bool.{Bool, true, false, _||_, not}
 use mathlib.Core.List.{List}
 use Prim.Native.Nat.{ℕ, _≤_, _<_}
+use native.Mathlib.Omega.{arith}
 use lib.Dec.{eqb, ltb}
 use lib.ListN.{getD}
 use borrow.Author.Tests.{lt-ltb, le-ltb}
@@ -133,3 +134,12 @@ check-number l = go (ltb 250 (l .primary)) (goodId (l .id)) (goodManufacturer (l
     go false true true true false f h = refl
     go false true true true true false h = refl
     go false true true true true true h = absurd (h refl)
+
+-- which is one of 4 to 9
+pub failing-between : (f : Failing) → (4 ≤ failNumber f) × (failNumber f ≤ 9)
+failing-between BadPrimary = (omega arith, omega arith)
+failing-between BadId = (omega arith, omega arith)
+failing-between BadManufacturer = (omega arith, omega arith)
+failing-between BadMedium = (omega arith, omega arith)
+failing-between BadBaud = (omega arith, omega arith)
+failing-between BadFault = (omega arith, omega arith)

@@ -1,4 +1,4 @@
--- What the program's opening answers is what the definition allows, case by case.
+-- What the program's opening answers is what the definition gives, case by case.
 use mathlib.Core.Path.{_≡_, refl, sym, ap, ap₂, subst, _∙_}
 use mathlib.Core.Bool.{Bool, true, false, _&&_, _||_, not}
 use mathlib.Core.List.{List, map}
@@ -7,7 +7,6 @@ use native.Mathlib.Nat.{zero-add}
 use native.Mathlib.Omega.{arith}
 use lib.Dec.{eqb, ltb}
 use lib.ListN.{length, take, drop, length-map, length-replicate}
-use borrow.Author.Tests.{lt-ltb, le-ltb}
 use Rattle.laws.specs.Words.{if_then_else_, at}
 use Rattle.laws.specs.Sweep.{fold}
 use Rattle.meter.specs.Meter.{rates}
@@ -15,7 +14,7 @@ use Rattle.meter.specs.View.{blankMeter, plainMeter}
 use Rattle.list_check.specs.Tables.{isRate}
 use Rattle.list.specs.Layout.{Listed, Layout, fits, noFit, readRecords}
 use Rattle.list_check.specs.Check.{allPass}
-use Rattle.list_open.specs.Opening.{mostMeters, capacity, Opened, opens, refuses, refusesRecord, metersIn, OpeningGives, openRecords, openList}
+use Rattle.list_open.specs.Opening.{mostMeters, capacity, Opened, opens, refuses, metersIn, numberIn, indexIn, firstFailing, openRecords, openList}
 use Rattle.list_meter.specs.Fresh.{fresh}
 use Rattle.list.specs.ProgramReading.{shapeOfCount, shapeOf}
 use Rattle.list_open.specs.ProgramGather.{noMeters, gatheredOf}
@@ -28,6 +27,8 @@ use Rattle.list_check.specs.declared.refusal.Refusal.{Refusal}
 use Rattle.list_check.specs.declared.refusal.Refusal.the-variants.{Accepted, Capacity, Baud}
 use Rattle.list_open.specs.declared.Meters.{Meters}
 use Rattle.list.proofs.CountLaws.{readFrom}
+use Rattle.list_open.proofs.FirstLaws.{firstNumber}
+use Rattle.list_open.proofs.OpeningLaws.{capacity-is, records-over, records-failing, records-baud, records-opened}
 use Rattle.list_open.proofs.FoldLaws.{takeIn, gathered-all}
 use Rattle.list_open.proofs.TakeInLaws.{Under, all-taken, one-stops}
 
@@ -35,8 +36,8 @@ use Rattle.list_open.proofs.TakeInLaws.{Under, all-taken, one-stops}
 
 -- what an opening of the list comes to, by its shape
 abbrev ByShape : List ℕ → ℕ → Bool → Shape → Type 0
-ByShape bs bus practice Unversioned = openList bs bus practice ≡ refuses 1
-ByShape bs bus practice Unfit = openList bs bus practice ≡ refuses 2
+ByShape bs bus practice Unversioned = openList bs bus practice ≡ refuses 1 0
+ByShape bs bus practice Unfit = openList bs bus practice ≡ refuses 2 0
 ByShape bs bus practice (Fits n) = (rs : List Listed) × (readFrom bs 3 ≡ fits rs) × (n ≡ length rs) × (openList bs bus practice ≡ openRecords bus practice (fits rs))
 
 pub by-shape : (bs : List ℕ) (bus : ℕ) (practice : Bool) {s : Shape} → s ≡ shapeOf bs → ByShape bs bus practice s
@@ -53,25 +54,25 @@ by-shape bs bus practice {s} e = subst (ByShape bs bus practice) (sym e) (first 
     first false p true q = rw (p, q)
     first false p false q = records (readFrom bs 3) refl (rw (p, q))
 
--- ---- a refusal by number
+-- ---- a refusal
 
-pub given-refused : (bs : List ℕ) (bus : ℕ) (practice : Bool) (r : Refusal) {a : Meters} → a ≡ noMeters r → openList bs bus practice ≡ refuses (refusalNumber r) → refusalIndex r ≡ 0
+pub given-refused : (bs : List ℕ) (bus : ℕ) (practice : Bool) (r : Refusal) {a : Meters} → a ≡ noMeters r → openList bs bus practice ≡ refuses (refusalNumber r) (refusalIndex r)
     → MetersGiven bs bus practice a
 unfolding noMeters
-given-refused bs bus practice r {a} e o i =
+given-refused bs bus practice r {a} e o =
     subst (MetersGiven bs bus practice) (sym e)
     record {
-      gives = subst (λ (x : Opened). OpeningGives x (refusalNumber r) (refusalIndex r)) (sym o) (refl, i);
+      number = ap numberIn (sym o);
+      index = ap indexIn (sym o);
       count = ap (λ (x : Opened). length (metersIn x)) (sym o);
       meters = ap metersIn (sym o);
     }
 
 pub given-over : (bs : List ℕ) (bus : ℕ) (practice : Bool) {n : ℕ} {a : Meters} → Fits n ≡ shapeOf bs → mostMeters < n → a ≡ noMeters Capacity → MetersGiven bs bus practice a
-unfolding openRecords capacity
 given-over bs bus practice {n} e h q =
     let s = by-shape bs bus practice e in
-    let m : mostMeters < length (s .0) = omega (arith, s .2) in
-    given-refused bs bus practice Capacity q (s .3 ∙ rw (lt-ltb mostMeters (length (s .0)) m)) refl
+    let m : capacity < length (s .0) = omega (arith, s .2, capacity-is) in
+    given-refused bs bus practice Capacity q (s .3 ∙ records-over bus practice (s .0) m)
 
 -- ---- the bus baud
 
@@ -106,50 +107,47 @@ module _ (bs : List ℕ) (bus : ℕ) (practice : Bool) (rs : List Listed) (opene
   unfolding noMeters
   under = record { accepted = refl; places = length-replicate mostMeters blankMeter; room = rw zero-add few }
 
-  over-not : ltb capacity (length rs) ≡ false
-  unfolding capacity
-  over-not = le-ltb mostMeters (length rs) few
+  most : length rs ≤ capacity
+  most = omega (arith, few, capacity-is)
 
   abbrev Given : Meters → Type 0
   Given = MetersGiven bs bus practice
 
   -- a record fails
   given-record : allPass rs ≡ false → Given (rated bus all)
-  unfolding openRecords rated noMeters
+  unfolding rated noMeters
   given-record h =
       let s = one-stops bus practice (noMeters Accepted) rs under h in
-      let o : openList bs bus practice ≡ refusesRecord rs = opened ∙ rw (over-not, h) in
+      let o : openList bs bus practice ≡ refuses (firstNumber rs) (firstFailing rs) = opened ∙ records-failing bus practice rs most h in
       let e : rated bus all ≡ all = ap (λ (b : Bool). if b && not (isRate rates bus) then noMeters Baud else all) (s .refused) in
-      let i : refusalIndex (all .refusal) ≡ length (s .before) = s .index ∙ zero-add (length (s .before)) in
       subst Given (sym e)
       record {
-        gives =
-            subst (λ (x : Opened). OpeningGives x (refusalNumber (all .refusal)) (refusalIndex (all .refusal))) (sym o)
-            (s .r, s .before, s .after, s .is, i, s .number, subst (λ (n : ℕ). 0 < n) (sym (s .number)) (s .fails));
+        number = s .number ∙ ap numberIn (sym o);
+        index = s .index ∙ zero-add (firstFailing rs) ∙ ap indexIn (sym o);
         count = s .none ∙ ap (λ (x : Opened). length (metersIn x)) (sym o);
         meters = ap (λ (n : ℕ). map plainMeter (take n (all .meters))) (s .none) ∙ ap metersIn (sym o);
       }
 
   -- all pass, and the bus baud is none of the rates
   given-baud : allPass rs ≡ true → isRate rates bus ≡ false → Given (rated bus all)
-  unfolding openRecords rated
+  unfolding rated
   given-baud h k =
       let t = all-taken bus practice (noMeters Accepted) rs under h in
-      let o : openList bs bus practice ≡ refuses 10 = opened ∙ rw (over-not, h, k) in
+      let o : openList bs bus practice ≡ refuses 10 0 = opened ∙ records-baud bus practice rs most h k in
       let e : rated bus all ≡ noMeters Baud = ap (λ (x : Refusal). if isAccepted x && not (isRate rates bus) then noMeters Baud else all) (t .accepted) ∙ rw k in
-      given-refused bs bus practice Baud e o refl
+      given-refused bs bus practice Baud e o
 
   -- all pass, at one of the rates
   given-opened : allPass rs ≡ true → isRate rates bus ≡ true → Given (rated bus all)
-  unfolding openRecords rated noMeters
+  unfolding rated noMeters
   given-opened h k =
       let t = all-taken bus practice (noMeters Accepted) rs under h in
-      let o : openList bs bus practice ≡ opens (map (fresh bus practice) rs) = opened ∙ rw (over-not, h, k) in
+      let o : openList bs bus practice ≡ opens (map (fresh bus practice) rs) = opened ∙ records-opened bus practice rs most h k in
       let e : rated bus all ≡ all = ap (λ (x : Refusal). if isAccepted x && not (isRate rates bus) then noMeters Baud else all) (t .accepted) ∙ rw k in
       subst Given (sym e)
       record {
-        gives =
-            subst (λ (x : Opened). OpeningGives x (refusalNumber (all .refusal)) (refusalIndex (all .refusal))) (sym o) (ap refusalNumber (t .accepted), ap refusalIndex (t .accepted));
+        number = ap refusalNumber (t .accepted) ∙ ap numberIn (sym o);
+        index = ap refusalIndex (t .accepted) ∙ ap indexIn (sym o);
         count = t .count ∙ zero-add (length rs) ∙ sym (length-map rs (fresh bus practice)) ∙ ap (λ (x : Opened). length (metersIn x)) (sym o);
         meters = t .meters ∙ ap metersIn (sym o);
       }

@@ -1,4 +1,5 @@
 pub mod BringLaws
+pub mod FirstLaws
 pub mod FoldLaws
 pub mod GatherLaws
 pub mod GivenLaws
@@ -7,4 +8,5 @@ pub mod OpeningLaws
 pub mod Refusals
 pub mod StoreItem
 pub mod TakeInLaws
+pub mod Theorems
 pub mod WriteLaws

@@ -10,7 +10,7 @@ use lib.Dec.{eqb}
 use lib.ListN.{length, take, set, length-set}
 use lib.Seq.{take-suc-set}
 use borrow.Author.Tests.{lt-ltb, eqb-true, eqb-false, ne-eqb}
-use Rattle.list_open.specs.Opening.{mostMeters}
+use Rattle.list_open.specs.Opening.{mostMeters, firstFailing}
 use Rattle.laws.specs.Words.{if_then_else_}
 use Rattle.laws.specs.Sweep.{fold}
 use Rattle.laws.proofs.Lists.{and-l, and-r}
@@ -30,6 +30,7 @@ use Rattle.list_check.specs.declared.refusal.Refusal.{Refusal}
 use Rattle.list_check.specs.declared.refusal.Refusal.the-variants.{Accepted, AtRecord}
 use Rattle.list_open.specs.declared.Meters.{Meters}
 use Rattle.list_meter.proofs.FreshLaws.{fresh-plain}
+use Rattle.list_open.proofs.FirstLaws.{firstNumber, first-later, first-here, number-later, number-here}
 use Rattle.list_open.proofs.FoldLaws.{takeIn}
 use Rattle.list_open.proofs.GatherLaws.{join-kept}
 use Rattle.list_check.proofs.VerdictLaws.{check-number}
@@ -112,15 +113,10 @@ module _ (bus : ℕ) (practice : Bool) where
             ∙ append-assoc (soFar a) (fresh bus practice r ∷ []) (map (fresh bus practice) rs);
       }
 
-  -- the first record that fails
+  -- the first record that fails, n records in front of these having passed
   pub record Stopped (n : ℕ) (rs : List Listed) (b : Meters) : Type 0 where
-    pub r : Listed
-    pub before : List Listed
-    pub after : List Listed
-    pub is : rs ≡ before ++ r ∷ after
-    pub index : refusalIndex (b .refusal) ≡ n + length before
-    pub number : refusalNumber (b .refusal) ≡ check r
-    pub fails : 0 < check r
+    pub index : refusalIndex (b .refusal) ≡ n + firstFailing rs
+    pub number : refusalNumber (b .refusal) ≡ firstNumber rs
     pub refused : isAccepted (b .refusal) ≡ false
     pub none : b .count ≡ 0
 
@@ -136,28 +132,21 @@ module _ (bus : ℕ) (practice : Bool) where
           let z = eqb-true (check r) 0 e in
           let s = more (after-one a r (length rs) u z) f in
           let c = ap (λ (x : Meters). x .count) (passed a r (length rs) u z) in
+          let l = first-later r rs z in
           record {
-            r = s .r;
-            before = r ∷ s .before;
-            after = s .after;
-            is = ap (λ x. r ∷ x) (s .is);
-            index = omega (arith, s .index);
-            number = s .number;
-            fails = s .fails;
+            index = omega (arith, s .index, l);
+            number = s .number ∙ sym (number-later r rs z);
             refused = s .refused;
             none = s .none;
           }
       go false e f more =
           let n = eqb-false (check r) 0 e in
           let w = ap (λ (x : Meters). fold (takeIn bus practice) x rs) (failed a r (length (r ∷ rs)) u n) ∙ kept (noMeters (AtRecord (failingOf (check r)) (a .count))) rs refl in
+          let l = first-here r rs e in
+          let i : refusalIndex (fold (takeIn bus practice) a (r ∷ rs) .refusal) ≡ a .count = ap (λ (x : Meters). refusalIndex (x .refusal)) w in
           record {
-            r = r;
-            before = [];
-            after = rs;
-            is = refl;
-            index = ap (λ (x : Meters). refusalIndex (x .refusal)) w ∙ sym (add-zero (a .count));
-            number = ap (λ (x : Meters). refusalNumber (x .refusal)) w ∙ check-number r n;
-            fails = omega (arith, n);
+            index = omega (arith, i, l);
+            number = ap (λ (x : Meters). refusalNumber (x .refusal)) w ∙ check-number r n ∙ sym (number-here r rs e);
             refused = ap (λ (x : Meters). isAccepted (x .refusal)) w;
             none = ap (λ (x : Meters). x .count) w;
           }

@@ -1,3 +1,4 @@
 pub mod ProgramGather
 pub mod Given
 pub mod Opening
+pub mod Theorems

@@ -51,7 +51,7 @@ fn gather(list: &[u8], bus: u32, practice: bool) -> Meters
     finished(meters, progress)
 }
 
-// A list opened at a baud: 1, 2 and 3 by the whole layout, then the records' 4 to 9, then 10.
+// A list opened at a baud: 1, 2 and 3 by the whole layout, then 4 to 9 by the first record that fails, then 10.
 pub fn meters_of(list: &[u8], bus: u32, practice: bool) -> Meters
     ensures { λ r. ⌜ MetersGiven (now (list .entry)) bus practice r ⌝ }
 {

@@ -1,4 +1,4 @@
--- What may be written for a list, by what the opening and the search give.
+-- What is written for a list, by what the opening and the search give.
 use mathlib.Core.Path.{_≡_, refl, sym, ap, ap₂, subst, _∙_}
 use mathlib.Core.Bool.{false}
 use mathlib.Core.List.{List, _++_}
@@ -10,7 +10,7 @@ use lib.Seq.{take-at, length-take-le}
 use borrow.Author.Tests.{eq-eqb, ne-eqb}
 use Rattle.search.specs.Site.{site, october}
 use Rattle.time_clock.specs.declared.Clock.{Clock}
-use Rattle.list_open.specs.Opening.{OpeningGives, openList, capacity}
+use Rattle.list_open.specs.Opening.{numberIn, indexIn, openList, capacity}
 use Rattle.segment.specs.Plain.{Plain, blank}
 use Rattle.segment.specs.Calls.{afterOpening}
 use Rattle.list_check.specs.declared.refusal.Refusal.{Refusal}
@@ -22,7 +22,7 @@ use Rattle.search.specs.declared.Entries.{Entries}
 use Rattle.search.specs.View.{entriesGive, SearchesIn}
 use Rattle.search.specs.SearchCall.{Searched, searchCall}
 use Rattle.listing_text.specs.Text.{reportOf, refusalOf, Prints}
-use Rattle.listing_text.specs.Listing.{lentRecords, listIn, listedSearch, listingText, Lists}
+use Rattle.listing_text.specs.Listing.{lentRecords, listIn, listedSearch, listingText, listingOf}
 use Rattle.listing_text.specs.ProgramListing.{OpensSite}
 
 pub lent-count : length lentRecords ≡ capacity
@@ -45,44 +45,29 @@ pub opens-site : {l m : List ℕ} {r : Refusal} {old new : List ℕ} → l ≡ m
 unfolding site
 opens-site {l} {m} {r} e i o =
     record {
-      answer = subst (λ (x : List ℕ). OpeningGives (openList x 2400 false) (refusalNumber r) (refusalIndex r)) e (o .gives);
+      number = o .number-is ∙ ap (λ (x : List ℕ). numberIn (openList x 2400 false)) e;
+      index = o .index-is ∙ ap (λ (x : List ℕ). indexIn (openList x 2400 false)) e;
       segment = o .segment ∙ ap₂ (λ (x : List ℕ) (s : Plain). afterOpening x 2400 false zeroSeconds s) e (i .means);
     }
 
--- what the opening gives
-abbrev pub OpenedAs : List ℕ → ℕ → ℕ → Type 0
-OpenedAs input n i = OpeningGives (openList (listIn input) 2400 false) n i
+-- the opening's number
+abbrev pub openedAs : List ℕ → ℕ
+openedAs input = numberIn (openList (listIn input) 2400 false)
 
-module _ {input lent after : List ℕ} {r : ℕ} where
-  pub lists-refusal : (m i n : ℕ) → OpenedAs input m i → n ≡ m → (n ≡ 0 → ⊥) → Prints lent (refusalOf n) r after → Lists input lent r after
-  lists-refusal m i n o e h p =
-      record {
-        text = refusalOf n;
-        gives =
-            record {
-              number = n;
-              index = i;
-              opening = rw e o;
-              is = sym (text-refused n (listedSearch (listIn input)) h);
-            };
-        prints = p;
-      }
+module _ (input : List ℕ) {lent after : List ℕ} {r : ℕ} where
+  pub lists-refusal : (n : ℕ) → n ≡ openedAs input → (n ≡ 0 → ⊥) → Prints lent (refusalOf n) r after → Prints lent (listingOf input) r after
+  unfolding listingOf
+  lists-refusal n e h p =
+      let t : refusalOf n ≡ listingOf input = sym (text-refused n (listedSearch (listIn input)) h) ∙ ap (λ (x : ℕ). listingText x (listedSearch (listIn input))) e in
+      subst (λ (t : List ℕ). Prints lent t r after) t p
 
   -- f is a search in the image `old`
-  pub lists-report : (m i n : ℕ) (old new : List ℕ) (k : Clock) (f : Entries) → OpenedAs input m i → n ≡ m → n ≡ 0
+  pub lists-report : (n : ℕ) (old new : List ℕ) (k : Clock) (f : Entries) → n ≡ openedAs input → n ≡ 0
       → decodeImage old ≡ site (listIn input) → k ≡ october → SearchesIn old k 10000 capacity f new → length (f .entries) ≡ capacity
-      → Prints lent (reportOf (take (f .count) (f .entries)) (f .probes)) r after → Lists input lent r after
-  unfolding listedSearch capacity
-  lists-report m i n old new k f o e z a b c d p =
+      → Prints lent (reportOf (take (f .count) (f .entries)) (f .probes)) r after → Prints lent (listingOf input) r after
+  unfolding listedSearch listingOf capacity
+  lists-report n old new k f e z a b c d p =
       let g = c .gives lentRecords lent-count ∙ ap₂ (λ (x : Clock) (y : Plain). searchCall x 10000 lentRecords y) b a in
-      record {
-        text = reportOf (take (f .count) (f .entries)) (f .probes);
-        gives =
-            record {
-              number = n;
-              index = i;
-              opening = rw e o;
-              is = sym (text-report n (entriesGive f (decodeImage new) lentRecords) (f .entries) (drop (f .count) lentRecords) z refl (omega (arith, c .fits))) ∙ ap (listingText n) g;
-            };
-        prints = p;
-      }
+      let t : reportOf (take (f .count) (f .entries)) (f .probes) ≡ listingText n (listedSearch (listIn input)) =
+      sym (text-report n (entriesGive f (decodeImage new) lentRecords) (f .entries) (drop (f .count) lentRecords) z refl (omega (arith, c .fits))) ∙ ap (listingText n) g in
+      subst (λ (t : List ℕ). Prints lent t r after) (t ∙ ap (λ (x : ℕ). listingText x (listedSearch (listIn input))) e) p

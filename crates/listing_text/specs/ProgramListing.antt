@@ -3,13 +3,14 @@ use mathlib.Core.Path.{_≡_}
 use mathlib.Core.Bool.{false}
 use mathlib.Core.List.{List}
 use Prim.Native.Nat.{ℕ}
-use Rattle.list_open.specs.Opening.{OpeningGives, openList}
+use Rattle.list_open.specs.Opening.{numberIn, indexIn, openList}
 use Rattle.list_check.specs.declared.refusal.Refusal.{Refusal}
 use Rattle.list_check.specs.Refusals.{refusalNumber, refusalIndex}
 use Rattle.segment_image.specs.Image.{decodeImage}
 use Rattle.search.specs.Site.{site}
 
--- the answer is one that 01 allows, and the image means the site
+-- number and index are the definition's, and the image means the site
 pub record OpensSite (list : List ℕ) (r : Refusal) (image : List ℕ) : Type 0 where
-  pub answer : OpeningGives (openList list 2400 false) (refusalNumber r) (refusalIndex r)
+  pub number : refusalNumber r ≡ numberIn (openList list 2400 false)
+  pub index : refusalIndex r ≡ indexIn (openList list 2400 false)
   pub segment : decodeImage image ≡ site list

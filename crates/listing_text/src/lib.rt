@@ -1,8 +1,9 @@
 // What the listing program writes for what it reads.
 ghost use mathlib.Core.Path.{_≡_};
 ghost use Rattle.search.specs.Site.{october};
-ghost use Rattle.listing_text.specs.Listing.{listIn, Lists};
+ghost use Rattle.listing_text.specs.Listing.{listIn, listingOf};
 ghost use Rattle.listing_text.specs.ProgramListing.{OpensSite};
+ghost use Rattle.listing_text.specs.Text.{Prints};
 use laws::least;
 use list_check::refusal::Refusal;
 use segment::METERS;
@@ -47,7 +48,7 @@ fn no_image() -> [u8; IMAGE] {
 }
 
 fn list_into(input: &[u8], lent: [u8; TEXT]) -> Printed
-    ensures { λ r. ⌜ Lists (now (input .entry)) lent (r .len) (r .bytes) ⌝ }
+    ensures { λ r. ⌜ Prints lent (listingOf (now (input .entry))) (r .len) (r .bytes) ⌝ }
 {
     let mut image = no_image();
     let answer = open_list(&mut image, input);
@@ -62,7 +63,7 @@ fn list_into(input: &[u8], lent: [u8; TEXT]) -> Printed
 
 // What the listing program writes for what it reads: the text at the start of the lent bytes, and its length.
 pub fn listing(input: &[u8], out: &mut [u8; TEXT]) -> usize
-    ensures { λ r. ⌜ Lists (now (input .entry)) (now (out .entry)) r (now (out .exit)) ⌝ }
+    ensures { λ r. ⌜ Prints (now (out .entry)) (listingOf (now (input .entry))) r (now (out .exit)) ⌝ }
 {
     let lent = *out;
     let text = list_into(input, lent);

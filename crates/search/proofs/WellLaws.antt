@@ -10,7 +10,7 @@ use Rattle.laws.specs.Words.{Every}
 use Rattle.laws.proofs.Lists.{every-map, every-image, every-back}
 use Rattle.frame.specs.Frame.{Telegram, encode}
 use Rattle.time_clock.specs.declared.Clock.{Clock}
-use Rattle.list_open.specs.Opening.{Opened, opens, refuses, refusesRecord, openList, capacity}
+use Rattle.list_open.specs.Opening.{Opened, opens, refuses, openList, capacity}
 use Rattle.list_open.proofs.OpeningLaws.{OpensWell, openList-well}
 use Rattle.segment.specs.Plain.{Plain, blank}
 use Rattle.segment.specs.Calls.{afterOpening}
@@ -70,8 +70,7 @@ opening-well list bus practice origin s w = go (openList list bus practice) refl
     go (opens ms) e h =
         let g : OpensWell (opens ms) = subst OpensWell e h in
         rw (e, afterOpening) (record { few = g .0; ids = every-map (λ m i. (i .0, digits-of (m .digits) (i .1))) ms (g .1) })
-    go (refuses n) e h = rw (e, afterOpening) w
-    go (refusesRecord rs) e h = rw (e, afterOpening) w
+    go (refuses number index) e h = rw (e, afterOpening) w
 
 -- ---- the segment that a refused first opening gives
 

@@ -8,7 +8,7 @@ use Rattle.laws.specs.Words.{if_then_else_}
 use Rattle.laws.specs.Refusal.{notRefused, refusedBaud}
 use Rattle.meter.specs.Meter.{rates}
 use Rattle.list_check.specs.Tables.{isRate}
-use Rattle.list_open.specs.Opening.{opens, refuses, refusesRecord, openList}
+use Rattle.list_open.specs.Opening.{opens, refuses, openList}
 use Rattle.segment.specs.Plain.{Plain, withQueue}
 
 -- ---- opening
@@ -19,8 +19,7 @@ unfoldable pub afterOpening : List ℕ → ℕ → Bool → Float → Plain → 
 afterOpening list bus practice origin former =
     elim (openList list bus practice) [
       | opens ms ↦ record { baud = bus; origin = origin; input = []; queue = []; meters = ms }
-      | refuses n ↦ former
-      | refusesRecord rs ↦ former
+      | refuses number index ↦ former
     ]
 
 -- ---- what a call comes to that is accepted or refused

@@ -5,7 +5,7 @@ use mathlib.Core.Bool.{Bool}
 use mathlib.Core.List.{List}
 use Prim.Native.Nat.{ℕ, _<_}
 use lib.Ieee.{Float}
-use Rattle.list_open.specs.Opening.{OpeningGives, openList}
+use Rattle.list_open.specs.Opening.{numberIn, indexIn, openList}
 use Rattle.segment.specs.Plain.{Plain}
 use Rattle.segment.specs.Calls as calls
 use Rattle.segment_image.specs.Image.{decodeImage, encodeImage, Exact}
@@ -21,10 +21,11 @@ pub record DoneImage (want : calls.Done) (number : ℕ) (before after : List ℕ
   pub exact : Exact before → Exact after
   pub kept : 0 < number → after ≡ before
 
--- an opening: the number and the index are ones that 01 allows, and the image means the segment afterwards;
+-- an opening: number and index are the definition's, and the image means the segment afterwards;
 -- where the number is 0, it is that segment's image whatever it was before, else every byte of it stays
 pub record OpenedImage (list : List ℕ) (bus : ℕ) (practice : Bool) (origin : Float) (number index : ℕ) (before after : List ℕ) : Type 0 where
-  pub gives : OpeningGives (openList list bus practice) number index
+  pub number-is : number ≡ numberIn (openList list bus practice)
+  pub index-is : index ≡ indexIn (openList list bus practice)
   pub segment : decodeImage after ≡ calls.afterOpening list bus practice origin (decodeImage before)
   pub bytes : number ≡ 0 → after ≡ encodeImage (calls.afterOpening list bus practice origin (decodeImage before))
   pub kept : 0 < number → after ≡ before

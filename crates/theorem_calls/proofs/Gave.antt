@@ -2,7 +2,7 @@
 -- and segment.
 use mathlib.Core.Path.{_≡_, refl, sym, ap, subst, _∙_}
 use mathlib.Core.Bool.{Bool, true, false}
-use mathlib.Core.List.{List, [], _∷_}
+use mathlib.Core.List.{List}
 use Prim.Native.Nat.{ℕ, _/_, _%_, _<_}
 use native.Mathlib.Omega.{arith}
 use lib.Dec.{eqb}
@@ -28,7 +28,7 @@ use Rattle.search.specs.View.{searchedOf, SearchesInto}
 use Rattle.search.proofs.Searched.Laws.{lowered as searched-value}
 use Rattle.c_search.specs.Searches.{searchBy, summaryOf, Searches}
 use Rattle.theorem_calls.specs.Call.{Call, opening, sending, receiving, clearing, changing, searching, searchingInto, afterCall}
-use Rattle.theorem_calls.specs.Answer.{Answer, opened, sent, received, cleared, changed, searched, searchedInto, entriesAfter, summaryAfter, Gives}
+use Rattle.theorem_calls.specs.Answer.{opened, sent, received, changed, searched, searchedInto, summaryAfter, answerTo}
 use Rattle.theorem_calls.specs.Made.{withBytes}
 use Rattle.theorem_calls.specs.Read.{BytesIn, RecordsIn, Reads}
 
@@ -84,44 +84,41 @@ summary-is w n su zs e told kept = go (eqb (w .number) 0) refl
     go true h = told (e ∙ eqb-true (w .number) 0 h) ∙ sym (ap (λ b. if b then summaryOf (w .count) (w .probes) (w .spent) else su) h)
     go false h = let f = eqb-false (w .number) 0 h in kept (omega (arith, e, f)) ∙ sym (ap (λ b. if b then summaryOf (w .count) (w .probes) (w .spent) else su) h)
 
--- what was returned and written is an answer that 01 gives: of each call, and of any
+-- what was returned and written is 01's answer: of each call, and of any
 abbrev Answered : Call → List ℕ → Memory → Val → Memory → Type 0
-Answered c bs σ r σ₁ = (a : Answer) × Reads c σ r σ₁ a × Gives (decodeImage bs) c a
+Answered c bs σ r σ₁ = Reads c σ r σ₁ (answerTo (decodeImage bs) c)
 
 module _ (bs : List ℕ) (σ : Memory) (r : Val) (σ₁ : Memory) (cs : List ℕ) where
   answers-open : (list : List ℕ) (bus : ℕ) (practice : Bool) (origin : Float) → Gave (opening list bus practice origin) bs σ r σ₁ cs → Answered (opening list bus practice origin) bs σ r σ₁
-  answers-open list bus practice origin g = (opened (g .0 % 256) (g .0 / 256), (g .0, g .1, g .2, refl), (g .0 % 256, g .0 / 256, refl, g .3 .gives))
+  answers-open list bus practice origin g = (g .0, g .1, g .2, λ j. opened (sym (g .3 .number-is) j) (sym (g .3 .index-is) j))
 
   answers-send : (piece : List ℕ) (k : Clock) → Gave (sending piece k) bs σ r σ₁ cs → Answered (sending piece k) bs σ r σ₁
   unfolding doneBy
   answers-send piece k g =
       let e : g .0 / 65536 ≡ (send piece k (decodeImage bs)) .number = ap (λ (d : plain.Done). d .number) (g .3 .done .answer) in
-      (sent (g .0 / 65536) (g .0 % 65536), (g .0, g .1, g .2, refl), λ j. sent (e j) (g .3 .due-is j))
+      (g .0, g .1, g .2, λ j. sent (sym e j) (sym (g .3 .due-is) j))
 
   answers-receive : (lent : List ℕ) → Gave (receiving lent) bs σ r σ₁ cs → Answered (receiving lent) bs σ r σ₁
   unfolding receivedBy
-  answers-receive lent g = (received (g .0) (g .1), (g .0, g .1, g .2, g .3, refl), ap (λ (d : plain.Received). received (d .count) (d .lent)) (g .4 .answer))
+  answers-receive lent g = (g .0, g .1, g .2, g .3, ap (λ (d : plain.Received). received (d .count) (d .lent)) (sym (g .4 .answer)))
 
   answers-clear : Gave clearing bs σ r σ₁ cs → Answered clearing bs σ r σ₁
-  answers-clear g = (cleared, (g .0, refl), refl)
+  answers-clear g = (g .0, refl)
 
   answers-baud : (baud : ℕ) → Gave (changing baud) bs σ r σ₁ cs → Answered (changing baud) bs σ r σ₁
   unfolding doneBy
-  answers-baud baud g = (changed (g .0), (g .0, g .1, refl), ap (λ (d : plain.Done). changed (d .number)) (g .2 .answer))
+  answers-baud baud g = (g .0, g .1, ap (λ (d : plain.Done). changed (d .number)) (sym (g .2 .answer)))
 
   answers-search : (k : Clock) (allowance : ℕ) (xs su : List ℕ) → Gave (searching k allowance xs su) bs σ r σ₁ cs → Answered (searching k allowance xs su) bs σ r σ₁
   answers-search k allowance xs su g =
       let w = searchBy k allowance xs (decodeImage bs) in
-      let e = summary-is w (g .0) su (g .2) (g .6 .answer) (g .6 .told) (g .6 .summary-kept) in (
-        searched (g .0) (g .1) (g .2),
-        (g .0, g .1, g .2, g .3, g .4, g .5, refl),
-        λ j. searched (g .6 .answer j) (g .6 .written j) (e j),
-      )
+      let e = summary-is w (g .0) su (g .2) (g .6 .answer) (g .6 .told) (g .6 .summary-kept) in
+      (g .0, g .1, g .2, g .3, g .4, g .5, λ j. searched (sym (g .6 .answer) j) (sym (g .6 .written) j) (sym e j))
 
   answers-search-into : (k : Clock) (allowance : ℕ) (lent : List EntryRecord) → Gave (searchingInto k allowance lent) bs σ r σ₁ cs → Answered (searchingInto k allowance lent) bs σ r σ₁
   unfolding searchedOf
   answers-search-into k allowance lent g =
-      (_, (g .0, g .1, g .2, g .3, refl), ap (λ (d : definitions.Searched). searchedInto (d .number) (d .count) (d .probes) (d .spent) (d .lent)) (g .4 .gives))
+      (g .0, g .1, g .2, g .3, ap (λ (d : definitions.Searched). searchedInto (d .number) (d .count) (d .probes) (d .spent) (d .lent)) (sym (g .4 .gives)))
 
 pub answered : (c : Call) (bs : List ℕ) (σ : Memory) (r : Val) (σ₁ : Memory) (cs : List ℕ) → Gave c bs σ r σ₁ cs → Answered c bs σ r σ₁
 answered (opening list bus practice origin) bs σ r σ₁ cs g = answers-open bs σ r σ₁ cs list bus practice origin g

@@ -1,5 +1,5 @@
 -- One call.
-use mathlib.Core.Path.{_≡_, refl, sym, ap, subst, _∙_}
+use mathlib.Core.Path.{_≡_, sym, ap, subst}
 use mathlib.Core.Logic.{∥∥₁-prop, ∥∥₁-elim, ∥∥₁-map}
 use mathlib.Core.List.{List, [], _∷_}
 use Prim.Native.Nat.{ℕ}
@@ -31,7 +31,7 @@ use Rattle.theorem_calls.specs.Made.{withBytes, withRecords, lentAt, arr
 use Rattle.theorem_calls.specs.Read.{BytesIn}
 use Rattle.theorem_calls.specs.Demand3.{HoldsImage, Right}
 use Rattle.theorem_calls.proofs.Arguments.{loads-image}
-use Rattle.theorem_calls.proofs.Gave.{Gave, means, exact, answered}
+use Rattle.theorem_calls.proofs.Gave.{means, exact, answered}
 use Rattle.theorem_calls.proofs.Kept.{demands}
 use Rattle.theorem_calls.proofs.Routines.{size, Has, Stepped, Ends, open-ends, send-ends, receive-ends, clear-ends, set-baud-ends, search-ends, search-into-ends}
 
@@ -73,6 +73,6 @@ module _ {M : Type 1} (𝓤 : URA M) (H : Heap 𝓤) (𝓜 : Model 𝓤 H) (𝓖
       let z = exact c bs σ r σ₁ cs (d .1) x in
       let a = answered c bs σ r σ₁ cs (d .1) in
       ∥∥₁-map (holds-one b cs σ₁ G z (d .2)) (λ l. (
-        record { answer = a .0; read = a .1; gives = a .2; image = subst (HoldsImage σ₁ b) e l; meant = subst (λ (t : Plain). decodeImage (encodeImage t) ≡ t) e (ap decodeImage (sym z)); demands = demands c (decodeImage bs) w },
+        record { answers = a; image = subst (HoldsImage σ₁ b) e l; meant = subst (λ (t : Plain). decodeImage (encodeImage t) ≡ t) e (ap decodeImage (sym z)); demands = demands c (decodeImage bs) w },
         (cs, z, e, d .2),
       )))

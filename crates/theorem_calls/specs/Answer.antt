@@ -4,9 +4,9 @@ use mathlib.Core.Bool.{Bool}
 use mathlib.Core.List.{List, _++_}
 use Prim.Native.Nat.{ℕ, _*_}
 use lib.Dec.{eqb}
-use lib.ListN.{length, take, drop, replicate}
+use lib.ListN.{take, drop}
 use Rattle.laws.specs.Words.{if_then_else_, each}
-use Rattle.list_open.specs.Opening.{OpeningGives, openList}
+use Rattle.list_open.specs.Opening.{numberIn, indexIn, openList}
 use Rattle.segment.specs.Plain.{Plain}
 use Rattle.segment.specs.Calls.{receive, changeBaud}
 use Rattle.segment_send.specs.Send.{send, dueAfter}
@@ -40,18 +40,18 @@ entriesAfter r entries = each (take (r .count) (r .lent)) entryBytes ++ drop (16
 abbrev pub summaryAfter : Searched → List ℕ → List ℕ
 summaryAfter r summary = if eqb (r .number) 0 then summaryOf (r .count) (r .probes) (r .spent) else summary
 
--- 01's answer to a call on the segment s, a send's with the number of Req 01: "which record is free" for a refused
--- opening; everything else is given
-abbrev pub Gives : Plain → Call → Answer → Type 0
-Gives s (opening list bus practice origin) a = (n : ℕ) × (i : ℕ) × (a ≡ opened n i) × OpeningGives (openList list bus practice) n i
-Gives s (sending piece k) a = let d = send piece k s in a ≡ sent (d .number) (dueAfter d)
-Gives s (receiving lent) a = let r = receive lent s in a ≡ received (r .count) (r .lent)
-Gives s clearing a = a ≡ cleared
-Gives s (changing baud) a = a ≡ changed ((changeBaud baud s) .number)
-Gives s (searching k allowance entries summary) a =
-    let r = searchBy k allowance entries s in a ≡ searched (r .number) (entriesAfter r entries) (summaryAfter r summary)
-Gives s (searchingInto k allowance lent) a =
-    let r = searchCall k allowance lent s in a ≡ searchedInto (r .number) (r .count) (r .probes) (r .spent) (r .lent)
+-- 01's answer to a call on the segment s. Which record a refused opening names is by Req 02, what is due after a send
+-- by Req 01
+abbrev pub answerTo : Plain → Call → Answer
+answerTo s (opening list bus practice origin) = let o = openList list bus practice in opened (numberIn o) (indexIn o)
+answerTo s (sending piece k) = let d = send piece k s in sent (d .number) (dueAfter d)
+answerTo s (receiving lent) = let r = receive lent s in received (r .count) (r .lent)
+answerTo s clearing = cleared
+answerTo s (changing baud) = changed ((changeBaud baud s) .number)
+answerTo s (searching k allowance entries summary) =
+    let r = searchBy k allowance entries s in searched (r .number) (entriesAfter r entries) (summaryAfter r summary)
+answerTo s (searchingInto k allowance lent) =
+    let r = searchCall k allowance lent s in searchedInto (r .number) (r .count) (r .probes) (r .spent) (r .lent)
 
 -- A search that is not refused: its entries, probes, spent and segment are those of the walk over s; its price, when
 -- it is spent, its entries, their order,

@@ -15,7 +15,7 @@ use Rattle.segment.specs.Plain.{Plain, blank}
 use Rattle.segment_image.specs.Image.{decodeImage, encodeImage}
 use Rattle.jezynar.proofs.jezynar_segment_new.Symbol.{routine as new-routine}
 use Rattle.theorem_calls.specs.Call.{Call, opening, afterCall, afterCalls}
-use Rattle.theorem_calls.specs.Answer.{Answer, Gives, Demands}
+use Rattle.theorem_calls.specs.Answer.{answerTo, Demands}
 use Rattle.theorem_calls.specs.Fit.{Byte, FitImage, FitCall}
 use Rattle.theorem_calls.specs.Made.{withBytes, Made, over, next}
 use Rattle.theorem_calls.specs.Read.{BytesIn, Reads}
@@ -47,9 +47,7 @@ HoldsImage σ b s = BytesIn σ b (encodeImage s)
 -- The call c on the segment s, made in the memory σ, returned r and left the memory σ′
 pub record Right (b : ℕ) (s : Plain) (c : Call) (σ : Memory) (r : Val) (σ′ : Memory) : Type 0 where
   -- what it returned and wrote is 01's answer on s
-  pub answer : Answer
-  pub read : Reads c σ r σ′ answer
-  pub gives : Gives s c answer
+  pub answers : Reads c σ r σ′ (answerTo s c)
   -- it left the image of 01's segment
   pub image : HoldsImage σ′ b (afterCall c s)
   -- and read back, these bytes are that segment in all its parts

@@ -45,9 +45,31 @@ fn meter(r: &mut Random) -> SimMeter {
     m
 }
 
+/// Makes a meter fail with one of the numbers 4 to 9.
+fn spoil(r: &mut Random, m: &mut SimMeter) {
+    match r.below(6) {
+        0 => m.primary = r.of(&[251, 255]),
+        1 => m.id = r.of(&["", "1234567", "1234567A", "123456789"]).into(),
+        2 => m.manufacturer = r.of(&["Kam", "KA", "KAMM"]).into(),
+        3 => m.medium = r.of(&["", "steam", "Heat"]).into(),
+        4 => m.baud = Some(r.of(&[1, 2401, u32::MAX])),
+        _ => m.fault = r.of(&["", "loud", "None"]).into(),
+    }
+}
+
 fn list(r: &mut Random) -> Vec<u8> {
     let n = if r.one_in(40) { r.of(&[0, 63, 64, 65, 66]) } else { r.below(9) };
-    let meters: Vec<SimMeter> = (0..n).map(|_| meter(r)).collect();
+    let mut meters: Vec<SimMeter> = (0..n).map(|_| meter(r)).collect();
+    // Some lists with several failing records, of which some fail in several ways. This has a generator of its own, so
+    // that the other calls of a seed do not depend on it.
+    let mut own = Random::new(r.0);
+    if own.one_in(12) {
+        for m in &mut meters {
+            while own.one_in(3) {
+                spoil(&mut own, m);
+            }
+        }
+    }
     let mut bytes = list_bytes(&meters);
     if r.one_in(5) {
         let k = r.below(bytes.len() as u64) as usize;

@@ -1,15 +1,18 @@
 //! That a failing list is shrunk to the least, that faults put into the other side are seen, that the directed lists
-//! reach the limits; that the number of bytes due is the least.
+//! reach the limits and tell apart the rules by which a failing record could be named; that the number of bytes due is
+//! the least.
 use crate::calls::{hex, run, run_on, transcript, Answer, Call, Counts, Side, State, GUARD};
 use crate::directed;
 use crate::layout::{fields, list_of, records};
 use crate::library::Library;
-use crate::random::list_of as random_list;
+use crate::random::{list_of as random_list, RATES};
 use crate::rust::Rust;
 use crate::shrink::{shrink, Fails, PLAIN};
 use oracle::mbus::frame::{self, Frame, Parse};
-use reference::{due, Clock};
+use oracle::sim::{FAULTS, MEDIA};
+use reference::{due, Clock, METERS};
 use std::collections::HashSet;
+use std::ops::RangeInclusive;
 
 /// The first random list of at least `least` calls for which this holds.
 fn found(least: usize, fails: Fails) -> Vec<Call> {
@@ -63,8 +66,11 @@ fn numbers_become_least() {
     assert_eq!((clock, *allowance, *lent), (&PLAIN, 7, 101));
 }
 
+/// A fault in the answers.
+type Damage = fn(&Call, &mut Answer);
+
 /// The Rust with a fault put in: in its answers, or in the segment that it shows.
-struct Damaged(Rust, fn(&Call, &mut Answer), fn(&mut State));
+struct Damaged(Rust, Damage, fn(&mut State));
 
 impl Side for Damaged {
     fn answer(&mut self, call: &Call) -> Answer {
@@ -80,7 +86,7 @@ impl Side for Damaged {
 }
 
 /// What is left of a random list that fails against a damaged side.
-fn left(answer: fn(&Call, &mut Answer), state: fn(&mut State)) -> Vec<Call> {
+fn left(answer: Damage, state: fn(&mut State)) -> Vec<Call> {
     let mut fails = |c: &[Call]| run_on(c, &mut Damaged(Rust::new(), answer, state), &mut Counts::default(), None).is_err();
     shrink(found(8, &mut fails), &mut fails)
 }
@@ -155,7 +161,7 @@ fn a_number_due_is_seen() {
 #[test]
 fn a_number_due_is_seen_where_it_is_wrong() {
     let send = |piece: &[u8]| Call::Send { piece: piece.to_vec(), clock: PLAIN };
-    let fails = |damage: fn(&Call, &mut Answer), calls: &[Call]| {
+    let fails = |damage: Damage, calls: &[Call]| {
         run_on(calls, &mut Damaged(Rust::new(), damage, |_| {}), &mut Counts::default(), None).is_err()
     };
     let nke = [0x10, 0x40, 1, 0x41, 0x16];
@@ -212,6 +218,142 @@ fn the_number_due_is_the_least() {
     }
 }
 
+/// Every number that a record fails with, in the order of the checks.
+fn failures(record: &[u8]) -> Vec<u64> {
+    let f = fields(record).unwrap();
+    let own = f[2].iter().fold(0, |n, b| n * 256 + *b as u32);
+    let (id, maker, medium, fault) = (&f[3], &f[4], &f[5], &f[6]);
+    let capitals = maker.len() == 3 && maker.iter().all(u8::is_ascii_uppercase);
+    let passes = [
+        f[0][0] <= 250,
+        id.len() == 8 && id.iter().all(u8::is_ascii_digit),
+        capitals || (maker.is_empty() && medium == b"heat_old"),
+        MEDIA.iter().any(|(key, _)| key.as_bytes() == medium),
+        own == 0 || RATES.contains(&own),
+        FAULTS.iter().any(|key| key.as_bytes() == fault),
+    ];
+    (4..).zip(passes).filter(|(_, passes)| !passes).map(|(number, _)| number).collect()
+}
+
+/// The records from the front, as far as the lengths fit: what each fails with.
+fn from_the_front(list: &[u8]) -> Vec<Vec<u64>> {
+    let mut out = Vec::new();
+    let mut rest = list.get(3..).unwrap_or_default();
+    while let Some(record) = rest.first().and_then(|n| rest.get(1..1 + *n as usize)).filter(|r| fields(r).is_some()) {
+        out.push(failures(record));
+        rest = &rest[1 + record.len()..];
+    }
+    out
+}
+
+/// A rule by which one of the records is named where some fail: the number, and the index.
+type Rule = fn(&[Vec<u64>]) -> Option<(u64, usize)>;
+
+/// 02: "the first in list order with its first number".
+fn first_failing(rs: &[Vec<u64>]) -> Option<(u64, usize)> {
+    let k = rs.iter().position(|numbers| !numbers.is_empty())?;
+    Some((rs[k][0], k))
+}
+
+fn last_failing(rs: &[Vec<u64>]) -> Option<(u64, usize)> {
+    let k = rs.iter().rposition(|numbers| !numbers.is_empty())?;
+    Some((rs[k][0], k))
+}
+
+/// As of a program that makes each check on all records before the next check.
+fn first_with_the_least_number(rs: &[Vec<u64>]) -> Option<(u64, usize)> {
+    let least = rs.iter().flatten().min()?;
+    Some((*least, rs.iter().position(|numbers| numbers.contains(least))?))
+}
+
+fn index_one_more(rs: &[Vec<u64>]) -> Option<(u64, usize)> {
+    first_failing(rs).map(|(number, k)| (number, k + 1))
+}
+
+fn a_later_number(rs: &[Vec<u64>]) -> Option<(u64, usize)> {
+    first_failing(rs).map(|(_, k)| (*rs[k].last().unwrap(), k))
+}
+
+/// The rule, in place of an answer to an opening with one of these numbers.
+fn by(rule: Rule, numbers: RangeInclusive<u64>, call: &Call, a: &mut Answer) {
+    if let Call::Open { list, .. } = call {
+        if numbers.contains(&(a.returned % 256)) {
+            let named = rule(&from_the_front(list));
+            a.returned = named.map_or(a.returned, |(number, k)| number + 256 * k as u64);
+        }
+    }
+}
+
+/// The bus baud is checked before the records.
+fn baud_before_records(call: &Call, a: &mut Answer) {
+    if let (Call::Open { baud, .. }, 4..=9) = (call, a.returned % 256) {
+        a.returned = if RATES.contains(baud) { a.returned } else { 10 };
+    }
+}
+
+/// Wrong openings: four rules that name another record or number, then three orders of the checks.
+const WRONG: [(&str, Damage); 7] = [
+    ("the last failing record", |call, a| by(last_failing, 4..=9, call, a)),
+    ("the first record with the least number", |call, a| by(first_with_the_least_number, 4..=9, call, a)),
+    ("the index of the record after it", |call, a| by(index_one_more, 4..=9, call, a)),
+    ("a later number of the right record", |call, a| by(a_later_number, 4..=9, call, a)),
+    ("a record before a length behind it", |call, a| by(first_failing, 2..=2, call, a)),
+    ("a record before the number of records", |call, a| by(first_failing, 3..=3, call, a)),
+    ("the bus baud before the records", baud_before_records),
+];
+
+/// Every directed opening follows the rule of 02; each wrong program answers some of them otherwise.
+#[test]
+fn another_record_named_is_seen() {
+    let mut seen = [0; WRONG.len()];
+    directed::all(&mut |name, calls| {
+        for call in calls.iter().filter(|call| matches!(call, Call::Open { .. })) {
+            let right = Rust::new().answer(call);
+            let answer = |wrong: Damage| {
+                let mut answer = right.clone();
+                wrong(call, &mut answer);
+                answer
+            };
+            assert_eq!(answer(|call, a| by(first_failing, 4..=9, call, a)), right, "{name}");
+            for (k, (_, wrong)) in WRONG.iter().enumerate() {
+                seen[k] += (answer(*wrong) != right) as u32;
+            }
+        }
+    });
+    for ((name, _), seen) in WRONG.iter().zip(seen) {
+        assert!(seen >= 200, "{name}: {seen}");
+    }
+}
+
+/// What is left of a random list against each wrong program: one opening, with no more records than tell it apart.
+#[test]
+fn another_record_named_is_shrunk() {
+    for ((name, wrong), most) in WRONG.iter().zip([2, 2, 1, 1, 2, 65, 1]) {
+        let calls = left(*wrong, |_| {});
+        let [Call::Open { list, .. }] = &calls[..] else { panic!("{name}: {calls:?}") };
+        assert!(from_the_front(list).len() <= most, "{name}: {}", hex(list));
+    }
+}
+
+/// A list for which each of the four rules names something else.
+#[test]
+fn one_list_tells_four_rules_apart() {
+    let passes = |primary: u8, id: &[u8]| [&[primary, 1, 0, 0, 0, 0, 8][..], id, b"\x03SEN\x05water\x04none"].concat();
+    let first = [&[2, 1, 0, 0, 0, 1][..], b"\x0812345679\x03SEN\x05water\x08no fault"].concat();
+    let steam = [&[4, 1, 0, 0, 0, 0][..], b"\x0812345681\x03SEN\x05steam\x04none"].concat();
+    let list = list_of(&[passes(1, b"12345678"), first, passes(251, b"12345680"), steam]);
+    let rs = from_the_front(&list);
+    assert_eq!(rs, [vec![], vec![8, 9], vec![4], vec![7]]);
+    assert_eq!(first_failing(&rs), Some((8, 1)));
+    let rules: [Rule; 4] = [last_failing, first_with_the_least_number, index_one_more, a_later_number];
+    assert_eq!(rules.map(|rule| rule(&rs)), [(7, 3), (4, 2), (8, 2), (9, 1)].map(Some));
+    let calls = [Call::Open { list, baud: 2400, practice: false, origin: 0.0 }];
+    assert!(run(&calls, &mut Counts::default()).is_ok());
+    for (name, wrong) in &WRONG[..4] {
+        assert!(run_on(&calls, &mut Damaged(Rust::new(), *wrong, |_| {}), &mut Counts::default(), None).is_err(), "{name}");
+    }
+}
+
 /// A segment with waiting input, a queue and 64 meters: no byte of the image that means something is left out.
 #[test]
 fn every_byte_of_an_image_is_seen() {
@@ -261,6 +403,7 @@ fn limits_are_met() {
         for call in &list {
             let Answer { returned, due, .. } = rust.answer(call);
             met.extend(call.number(returned).map(|n| (name(call), n as u32)));
+            met.extend(matches!(call, Call::Open { .. }).then_some(("named", returned as u32)));
             met.insert((if call.number(returned).is_some() { "due" } else { "due, read" }, due as u32));
             let s = rust.state();
             met.extend([("input", s.input.len() as u32), ("queue", s.queue.len() as u32), ("meters", s.meters.len() as u32)]);
@@ -273,6 +416,8 @@ fn limits_are_met() {
         }
     });
     let mut wanted: Vec<(&str, u32)> = (0..=10).map(|n| ("open", n)).collect();
+    // Each number of each record of the longest list.
+    wanted.extend((4..=9).flat_map(|n| (0..METERS as u32).map(move |k| ("named", n + 256 * k))));
     wanted.extend([("set baud", 10), ("encode", 11), ("encode", 12), ("send", 13), ("send", 14), ("send", 15)]);
     wanted.extend([("search", 14), ("search", 16), ("search", 17), ("part", 1), ("readouts", 2), ("readouts", 3)]);
     wanted.extend((0..=260).map(|n| ("input", n)));

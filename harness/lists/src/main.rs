@@ -134,4 +134,10 @@ fn main() {
     m.baud = Some(2401);
     write("refused_8_baud", &list_bytes(&[m]));
     write("refused_9_fault", &list_bytes(&[with_fault(1, "12345678", "loud")]));
+    // Records 1, 2 and 3 fail: with 8 and 9, with 4, with 7. The first of them is named, with its first number.
+    let mut first = with_fault(2, "12345679", "no fault");
+    first.baud = Some(1);
+    let steam = SimMeter::new(4, "12345681", "SEN", "steam");
+    let three = [water(1, "12345678"), first, water(251, "12345680"), steam];
+    write("refused_8_first_of_three", &list_bytes(&three));
 }

@@ -1,4 +1,4 @@
-//! The Rust segment, with 01's refusals.
+//! The Rust segment, with 01's refusals, and 02's choice of the record that is named.
 use crate::list::{failure, records};
 use crate::Clock;
 use oracle::link::Link;
@@ -31,7 +31,10 @@ impl Segment {
         self.sim.view()
     }
 
-    /// The number and the index; the record that is named is the first that fails.
+    /// 02: "Where a list has several failing meters, opening names the first in list order with its first number. This
+    /// replaces the freedom of the index; the numbers and the layout checks before them are as they were."
+    ///
+    /// Gives the number and the index. 01: "Elsewhere the index is 0."
     pub fn open(&mut self, list: &[u8], baud: u32, practice: bool, origin: f64) -> (u32, u32) {
         let rs = match records(list) {
             Ok(rs) => rs,
@@ -40,11 +43,9 @@ impl Segment {
         if rs.len() > METERS {
             return (3, 0);
         }
-        for (i, r) in rs.iter().enumerate() {
-            let n = failure(r);
-            if n != 0 {
-                return (n, i as u32);
-            }
+        // The first in list order is the failing record of the least index.
+        if let Some(first) = (0..rs.len()).filter(|k| failure(&rs[*k]) != 0).min() {
+            return (failure(&rs[first]), first as u32);
         }
         if !BAUD_RATES.contains(&baud) {
             return (10, 0);

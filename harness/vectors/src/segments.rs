@@ -142,6 +142,10 @@ pub fn openings(s: &mut Sample) {
     ] {
         s.open(&list_bytes(&[meter(1, "12345678", "KAM", "heat", "none"), m]), 2400, false, 0.0);
     }
+    // Records 1, 2 and 3 fail: with 8 and 9, with 4, with 7. The first of them is named, with its first number.
+    let first = SimMeter { baud: Some(1), ..meter(2, "12345679", "SEN", "water", "no fault") };
+    let (good_one, over) = (meter(1, "12345678", "SEN", "water", "none"), meter(251, "12345680", "SEN", "water", "none"));
+    s.open(&list_bytes(&[good_one, first, over, meter(4, "12345681", "SEN", "steam", "none")]), 2400, false, 0.0);
     s.open(&list_bytes(&[]), 2400, false, 0.5);
     s.state();
     s.open(&good, 2401, false, 0.0);

@@ -23,6 +23,28 @@ fn meters() -> Vec<u8> {
     list::write(&[heat, water, MeterSpec { baud: Some(300), ..water }]).unwrap()
 }
 
+/// Number + 256 * index. Where no record is named the index is 0, which the refusal's type does not show.
+#[test]
+fn an_opening_answers_a_number_and_an_index() {
+    let good = MeterSpec::new(1, "12345678", "KAM", Medium::Heat);
+    let bad = MeterSpec { primary: 251, ..good };
+    let failing = list::write(&[good, good, bad, MeterSpec { id: "", ..bad }]).unwrap();
+    let other_version = [&[2], &failing[1..]].concat();
+    let one_more_byte = [&failing[..], &[0]].concat();
+    let many = list::write(&[bad; 65]).unwrap();
+    for (list, baud, answer) in [
+        (&other_version, 2401, 1),
+        (&one_more_byte, 2401, 2),
+        (&many, 2401, 3),
+        (&failing, 2401, 4 + 256 * 2),
+        (&failing, 2400, 4 + 256 * 2),
+        (&meters(), 2401, 10),
+        (&meters(), 2400, 0),
+    ] {
+        assert_eq!(open(&mut [0; IMAGE], list, baud, false, 0.0), answer);
+    }
+}
+
 /// A call, which gives the number of its refusal and what it hands out: what was lent, as it is after the call, or how
 /// many bytes are due.
 type Call = fn(&mut Image) -> (u32, Vec<u8>);

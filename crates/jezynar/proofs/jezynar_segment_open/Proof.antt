@@ -1,8 +1,7 @@
 -- `jezynar::jezynar_segment_open` meets its contract.
 use native.Mathlib.Omega.{arith}
-use mathlib.Core.Path.{_≡_, subst}
+use mathlib.Core.Path.{_≡_, sym, _∙_}
 use Prim.Native.Nat.{_/_, _%_}
-use Rattle.list_open.specs.Opening.{OpeningGives, openList}
 use Rattle.list_check.specs.Refusals.{refusalNumber, refusalIndex}
 use Rattle.jezynar.proofs.ImageLaws.{opening-index, number-small}
 use borrow.Author.Needs.{needs}
@@ -15,12 +14,10 @@ open-requires c κs = search needs
 packed-requires : tie.Need-packed-requires
 packed-requires c κs =
     let a = c .before .before .before .args in
-    let r = c .«open» .result in
-    opening-index (a .list .now) (a .baud) (a .practice) (refusalNumber r) (refusalIndex r) (c .«open» .ensures .gives)
+    opening-index (a .list .now) (a .baud) (a .practice) (c .«open» .ensures .index-is)
 
 returns : tie.Need-returns
 returns c =
-    let a = c .before .before .before .before .args in
     let r = c .before .«open» .result in
     let o = c .before .«open» .ensures in
     let e = c .packed .ensures in
@@ -28,7 +25,8 @@ returns c =
     let n : refusalNumber r ≡ c .packed .result % 256 = omega (arith, e, small) in
     let i : refusalIndex r ≡ c .packed .result / 256 = omega (arith, e, small) in
     record {
-      gives = subst (λ x. OpeningGives (openList (a .list .now) (a .baud) (a .practice)) x (c .packed .result / 256)) n (subst (OpeningGives (openList (a .list .now) (a .baud) (a .practice)) (refusalNumber r)) i (o .gives));
+      number-is = sym n ∙ o .number-is;
+      index-is = sym i ∙ o .index-is;
       segment = o .segment;
       bytes = λ z. o .bytes (omega (arith, n, z));
       kept = λ z. o .kept (omega (arith, n, z));

@@ -1,6 +1,6 @@
 -- `list_open::meters_of` meets its contract.
 use borrow.Author.Needs.{needs}
-use mathlib.Core.Path.{refl, sym, _∙_}
+use mathlib.Core.Path.{sym, _∙_}
 use native.Mathlib.Omega.{arith}
 use Rattle.list_check.specs.declared.refusal.Refusal.the-variants.{Version, Length}
 use Rattle.list_open.proofs.GivenLaws.{by-shape, given-refused, given-over, rate-kept, rate-good, rate-bad, given-records}
@@ -53,10 +53,10 @@ returns-4 : tie.Need-returns-4
 returns-4 c = given-records (c .before .before .before .before .before .before .before .before .before .args .list .now) (c .before .before .before .before .before .before .before .before .before .args .bus) (c .before .before .before .before .before .before .before .before .before .args .practice) (sym (c .before .before .before .before .before .n .given .1) ∙ c .before .before .before .before .before .before .before .layout .ensures) (omega arith) (c .before .before .gather .ensures) (rate-kept (c .before .before .before .before .before .before .before .before .before .args .bus) _ (sym (c .before .is-accepted .ensures) ∙ c .if2 .left))
 
 returns-5 : tie.Need-returns-5
-returns-5 c = given-refused (c .before .before .before .before .before .args .list .now) (c .before .before .before .before .before .args .bus) (c .before .before .before .before .before .args .practice) Version (c .no-meters3 .ensures) (by-shape (c .before .before .before .before .before .args .list .now) (c .before .before .before .before .before .args .bus) (c .before .before .before .before .before .args .practice) (sym (c .before .enum-told .given .1) ∙ c .before .before .before .layout .ensures)) refl
+returns-5 c = given-refused (c .before .before .before .before .before .args .list .now) (c .before .before .before .before .before .args .bus) (c .before .before .before .before .before .args .practice) Version (c .no-meters3 .ensures) (by-shape (c .before .before .before .before .before .args .list .now) (c .before .before .before .before .before .args .bus) (c .before .before .before .before .before .args .practice) (sym (c .before .enum-told .given .1) ∙ c .before .before .before .layout .ensures))
 
 returns-6 : tie.Need-returns-6
-returns-6 c = given-refused (c .before .before .before .before .before .args .list .now) (c .before .before .before .before .before .args .bus) (c .before .before .before .before .before .args .practice) Length (c .no-meters4 .ensures) (by-shape (c .before .before .before .before .before .args .list .now) (c .before .before .before .before .before .args .bus) (c .before .before .before .before .before .args .practice) (sym (c .before .enum-told2 .given .1) ∙ c .before .before .before .layout .ensures)) refl
+returns-6 c = given-refused (c .before .before .before .before .before .args .list .now) (c .before .before .before .before .before .args .bus) (c .before .before .before .before .before .args .practice) Length (c .no-meters4 .ensures) (by-shape (c .before .before .before .before .before .args .list .now) (c .before .before .before .before .before .args .bus) (c .before .before .before .before .before .args .practice) (sym (c .before .enum-told2 .given .1) ∙ c .before .before .before .layout .ensures))
 
 pub meters-of-spec : {M : Type 1} → statement M
 meters-of-spec =

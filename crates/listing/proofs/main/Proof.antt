@@ -32,10 +32,10 @@ listing-requires : tie.Need-listing-requires
 listing-requires c κs = search needs
 
 array-share-prefix-out : tie.Need-array-share-prefix-out
-array-share-prefix-out c = prints-within (c .listing .ensures .prints)
+array-share-prefix-out c = prints-within (c .listing .ensures)
 
 slice-aggregate-write-all-2 : tie.Need-slice-aggregate-write-all-2
-slice-aggregate-write-all-2 c = front _ _ (prints-within (c .before .listing .ensures .prints))
+slice-aggregate-write-all-2 c = front _ _ (prints-within (c .before .listing .ensures))
 
 write-all-requires-2 : tie.Need-write-all-requires-2
 write-all-requires-2 c κs = search needs

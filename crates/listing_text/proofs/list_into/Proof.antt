@@ -1,4 +1,4 @@
-use mathlib.Core.Path.{_≡_}
+use mathlib.Core.Path.{_≡_, _∙_}
 use lib.ListN.{length}
 use borrow.Author.Needs.{needs}
 use Rattle.search.specs.Site.{site}
@@ -23,7 +23,7 @@ refusal-requires c κs = search needs
 returns : tie.Need-returns
 returns c =
     let n = c .before .before .refusal-number in
-    lists-refusal _ _ (n .result) (c .before .before .before .open-list .ensures .answer) (n .ensures) (c .before .if1 .taken) (c .refusal .ensures)
+    lists-refusal _ (n .result) (n .ensures ∙ c .before .before .before .open-list .ensures .number) (c .before .if1 .taken) (c .refusal .ensures)
 
 clock-requires : tie.Need-clock-requires
 clock-requires c κs = search needs
@@ -42,7 +42,7 @@ returns-2 c =
     let k = c .before .before .before .clock in
     let f = c .before .before .search-listed in
     let d : length (f .result .entries) ≡ capacity = search (needs, length-mapped) in
-    lists-report _ _ (n .result) _ _ (k .result) (f .result) (o .ensures .answer) (n .ensures) (c .before .before .before .before .before .if1 .left)
+    lists-report _ (n .result) _ _ (k .result) (f .result) (n .ensures ∙ o .ensures .number) (c .before .before .before .before .before .if1 .left)
     (o .ensures .segment) (k .ensures) (f .ensures) d (c .report .ensures)
 
 pub list-into-spec : {M : Type 1} → statement M

@@ -21,8 +21,9 @@ returns c =
     let d = c .before .is-accepted in
     let refused = sym (d .ensures) ∙ not-true (d .result) (c .if1 .taken) in
     record {
-      gives = m .ensures .gives;
-      segment = opening-refused (a .list .now) (a .baud) (a .practice) (a .origin) (decodeImage (a .image .now)) (m .result .refusal) (m .ensures .gives) refused;
+      number-is = m .ensures .number;
+      index-is = m .ensures .index;
+      segment = opening-refused (a .list .now) (a .baud) (a .practice) (a .origin) (decodeImage (a .image .now)) (m .result .refusal) (m .ensures .number) refused;
       bytes = λ z. absurd (omega (arith, refused-number (m .result .refusal) refused));
       kept = λ z. refl;
     }
@@ -45,9 +46,10 @@ returns-2 c =
     let p =
     o .ensures
     ∙ ap (λ ms. record { baud = a .baud; origin = a .origin; input = []; queue = []; meters = ms }) (m .ensures .meters)
-    ∙ opening-accepted (a .list .now) (a .baud) (a .practice) (a .origin) (decodeImage (a .image .now)) (m .result .refusal) (m .ensures .gives) accepted in
+    ∙ opening-accepted (a .list .now) (a .baud) (a .practice) (a .origin) (decodeImage (a .image .now)) (m .result .refusal) (m .ensures .number) accepted in
     record {
-      gives = m .ensures .gives;
+      number-is = m .ensures .number;
+      index-is = m .ensures .index;
       segment = w .means ∙ p;
       bytes = λ z. w .bytes ∙ ap encodeImage p;
       kept = λ z. absurd (omega (arith, accepted-number (m .result .refusal) accepted));

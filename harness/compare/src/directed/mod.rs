@@ -1,5 +1,6 @@
 //! Lists of calls that go to every limit, and through all short inputs.
 mod due;
+mod failing;
 mod openings;
 mod searches;
 mod sends;
@@ -18,6 +19,7 @@ type Each<'a> = &'a mut dyn FnMut(&str, Vec<Call>);
 
 pub fn all(each: Each) {
     openings::lists(each);
+    failing::lists(each);
     sends::lists(each);
     waiting::lists(each);
     due::lists(each);
@@ -84,6 +86,25 @@ fn every_medium() -> Vec<SimMeter> {
 /// Three that differ in what a telegram can do to them: two parts, a missed telegram, another baud.
 fn few() -> Vec<SimMeter> {
     vec![meter(1, 12_345_678, "KAM", "heat", "none"), meter(2, 12_345_699, "SEN", "water", "flaky"), at_baud(water(3, 87_654_321), 9600)]
+}
+
+/// A record with these texts: id, manufacturer, medium, fault.
+fn record(primary: u8, own: u32, texts: [&[u8]; 4]) -> Vec<u8> {
+    let mut out = [&[primary, 1][..], &own.to_be_bytes()].concat();
+    for t in texts {
+        out.push(t.len() as u8);
+        out.extend_from_slice(t);
+    }
+    out
+}
+
+/// A record that fails with each of these numbers, 4 to 9, and with no other; with none it passes.
+fn failing_with(numbers: &[u32]) -> Vec<u8> {
+    let on = |number: u32| numbers.contains(&number);
+    let text = |number: u32, good: &'static [u8], bad: &'static [u8]| if on(number) { bad } else { good };
+    let (primary, own) = (if on(4) { 251 } else { 250 }, if on(8) { 2401 } else { 300 });
+    let (id, maker) = (text(5, b"12345678", b"1234567"), text(6, b"SEN", b"Sen"));
+    record(primary, own, [id, maker, text(7, b"water", b"wine"), text(9, b"none", b"loud")])
 }
 
 fn open_list(list: Vec<u8>) -> Call {
