@@ -13,6 +13,11 @@ pub cut-off : bcd 4 9912345678 ≡ 0x78 ∷ 0x56 ∷ 0x34 ∷ 0x12 ∷ []
 unfolding bcd
 cut-off = refl
 
+-- digits above the twelfth are lost: the largest u64, 18446744 073709551615
+pub cut-off-largest : bcd 6 18446744073709551615 ≡ 0x15 ∷ 0x16 ∷ 0x55 ∷ 0x09 ∷ 0x37 ∷ 0x07 ∷ []
+unfolding bcd
+cut-off-largest = refl
+
 -- a number, low byte first
 pub number-6523 : little 2 6523 ≡ 0x7B ∷ 0x19 ∷ []
 unfolding little

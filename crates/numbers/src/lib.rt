@@ -4,6 +4,13 @@ ghost use Rattle.numbers.specs.Number.{number};
 ghost use Rattle.numbers.specs.Values.{little, bcd};
 ghost use mathlib.Core.List.{[], _∷_};
 ghost use mathlib.Core.Path.{_≡_};
+use reciprocal::above1;
+use reciprocal::above2;
+use reciprocal::above4;
+use reciprocal::above8;
+use reciprocal::above12;
+
+mod reciprocal; // reciprocal.rt: a number without its low decimal digits
 
 // The low byte.
 fn byte(v: u64) -> u8
@@ -26,23 +33,31 @@ pub fn le4(v: u64) -> [u8; 4]
     [byte(v), byte(v / 256), byte(v / 65536), byte(v / 16777216)]
 }
 
-// The two low decimal digits, the higher one in the upper nibble.
-fn bcd_byte(v: u64) -> u8
-    ensures { λ r. ⌜ r ≡ v / 10 % 10 * 16 + v % 10 ⌝ }
+// Two decimal digits in a byte, the higher one in the upper nibble, where it counts 16 and not 10.
+fn digits2(x: u64) -> u8
+    requires { ⌜ x < 100 ⌝ }
+    ensures { λ r. ⌜ r ≡ x / 10 % 10 * 16 + x % 10 ⌝ }
 {
-    (v / 10 % 10 * 16 + v % 10) as u8
+    (x + above1(x) * 6) as u8
+}
+
+// Four decimal digits, low byte first.
+fn digits4(x: u64) -> [u8; 2]
+    requires { ⌜ x < 10000 ⌝ }
+    ensures { λ r. ⌜ r ≡ bcd 2 x ⌝ }
+{
+    let h = above2(x);
+    [digits2(x - h * 100), digits2(h)]
 }
 
 // The low eight decimal digits, low byte first.
 pub fn bcd4(v: u64) -> [u8; 4]
     ensures { λ r. ⌜ r ≡ bcd 4 v ⌝ }
 {
-    [
-        bcd_byte(v),
-        bcd_byte(v / 100),
-        bcd_byte(v / 10000),
-        bcd_byte(v / 1000000),
-    ]
+    let v4 = above4(v);
+    let low = digits4(v - v4 * 10000);
+    let high = digits4(v4 - above8(v) * 10000);
+    [low[0], low[1], high[0], high[1]]
 }
 
 // The low twelve decimal digits, low byte first.
@@ -50,14 +65,8 @@ pub fn bcd6(v: u64) -> [u8; 6]
     ensures { λ r. ⌜ r ≡ bcd 6 v ⌝ }
 {
     let low = bcd4(v);
-    [
-        low[0],
-        low[1],
-        low[2],
-        low[3],
-        bcd_byte(v / 100000000),
-        bcd_byte(v / 10000000000),
-    ]
+    let high = digits4(above8(v) - above12(v) * 10000);
+    [low[0], low[1], low[2], low[3], high[0], high[1]]
 }
 
 fn wide(b: u8) -> u16

@@ -1,5 +1,5 @@
-//! The time of the exported calls of libjezynar.a against the Rust's own, both in one run and on one thread, then the stack
-//! that each of them takes.
+//! The time of the exported calls of libjezynar.a against the Rust's own, both in one run and on one thread, and of the routines
+//! that make BCD values; then the stack that each call takes.
 //! usage: speed [ROUNDS]; the least of the rounds is taken on either side.
 use library::{Image, ENTRIES, IMAGE, SUMMARY};
 use oracle::link::Link;
@@ -10,6 +10,7 @@ use reference::{list_bytes, Clock};
 use std::hint::black_box;
 use std::time::{Duration, Instant};
 
+mod bcd;
 mod library;
 mod stack;
 
@@ -91,7 +92,8 @@ fn least(rounds: u32, calls: u32, mut ours: impl FnMut() -> Duration, mut rust: 
 }
 
 fn show(name: &str, [ours, rust]: [f64; 2], goal: f64) {
-    println!("{name:<44} {ours:>9.0} ns {rust:>9.0} ns   ratio {:>5.2}   goal {goal}{}", ours / rust, if ours / rust > goal { "   over" } else { "" });
+    let decimals = (ours < 100.0) as usize;
+    println!("{name:<44} {ours:>9.decimals$} ns {rust:>9.decimals$} ns   ratio {:>5.2}   goal {goal}{}", ours / rust, if ours / rust > goal { "   over" } else { "" });
 }
 
 /// A call that does next to nothing: tens of nanoseconds, whatever the Rust takes.
@@ -278,5 +280,6 @@ fn main() {
     opening(rounds);
     search(rounds);
     short_calls(rounds);
+    bcd::show_all(rounds);
     stack::show_all();
 }

@@ -1,4 +1,4 @@
-//! Clocks: every value of each field, around the limits; every kind of f64 as origin and as now.
+//! Clocks: every value of each field, around the limits; every kind of f64 as origin and as now; readings where digits run over.
 use super::*;
 use reference::Clock;
 
@@ -20,6 +20,7 @@ fn floats() -> Vec<f64> {
 
 pub fn lists(each: Each) {
     seconds(each);
+    digits(each);
     fields(each);
 }
 
@@ -41,7 +42,7 @@ fn seconds(each: Each) {
         calls.extend([Call::Send { piece: requests.clone(), clock: Clock { now: s as f64 / 2.0, ..PLAIN } }, Call::Clear]);
     }
     each("half seconds", calls);
-    // Digits of a reading that run over: the last ones before a power of ten, for a seed as great as it gets.
+    // Times around a power of ten, for a seed as great as it gets; `digits` has the values themselves there.
     let highest: Vec<SimMeter> = MEDIA.iter().enumerate().map(|(k, (medium, _))| meter(k as u8 + 1, 996, "KAM", medium, "none")).collect();
     let mut calls = vec![open(&highest)];
     for p in 3..=19 {
@@ -50,6 +51,21 @@ fn seconds(each: Each) {
         }
     }
     each("readings at powers of ten", calls);
+}
+
+/// BCD values where digits run over: multiples of the powers of ten from 10^4 on and their neighbours, as near as an f64 of seconds
+/// gets, as far as a reading goes. Of a meter with seed 0 the value is `first` and the whole seconds, or minutes.
+fn digits(each: Each) {
+    let readings = [("electricity", 12_345_678, 1, u32::MAX as u64), ("water", 123_456, 1, u32::MAX as u64), ("heat_old", 12_345, 60, u64::MAX / 60)];
+    for (medium, first, unit, most) in readings {
+        let mut calls = vec![open(&[meter(1, 0, "KAM", medium, "none")])];
+        let multiples = (4..=17).flat_map(|k| (1..=40).map(move |n| n * 10u64.pow(k)));
+        for value in multiples.flat_map(|v| [v - 1, v, v + 1]).filter(|v| (first..=first + most).contains(v)) {
+            let clock = Clock { now: ((value - first) * unit) as f64, ..PLAIN };
+            calls.extend([Call::Send { piece: request(1), clock }, Call::Clear]);
+        }
+        each(&format!("digits of {medium}"), calls);
+    }
 }
 
 /// Every good value of each field, and values outside, in a send and in a search.
