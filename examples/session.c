@@ -1,5 +1,6 @@
 /* A session with the static library from C: a list of two meters made byte by byte, then what a master does with it:
- * SND_NKE, REQ_UD2 with both FCB, a secondary select, a telegram that comes in two pieces.
+ * SND_NKE, REQ_UD2 with both FCB, a secondary select, a telegram that comes in two pieces, a new address, a new baud;
+ * and the segment written back as a list.
  * cc -I include examples/session.c target/staticlib/libjezynar.a -o session; examples/session.txt is what it writes. */
 #include <stdio.h>
 #include <string.h>
@@ -128,5 +129,27 @@ int main(void)
     if (due == 0)
         return 1;
     printf("  %lu bytes are due\n", (unsigned long)due);
-    return send("and the rest", telegram + 2, due) == 0;
+    if (send("and the rest", telegram + 2, due) == 0)
+        return 1;
+
+    /* Another address for the selected meter, and another rate: CI B8 to BF are the eight, from 300 Bd on. */
+    const uint8_t address[3] = {0x01, 0x7A, 7};
+    len = encode(JEZYNAR_LONG, JEZYNAR_C_SND_UD, JEZYNAR_ADDR_SELECTED, JEZYNAR_CI_DATA_SEND, address, sizeof address,
+                 telegram);
+    if (send("address 7 for the selected", telegram, len) == 0)
+        return 1;
+    len = encode(JEZYNAR_LONG, JEZYNAR_C_SND_UD, 7, 0xBD, NULL, 0, telegram);
+    if (send("9600 Bd for 7", telegram, len) == 0)
+        return 1;
+
+    /* The list of the meters as they are now, to be opened at 2400 Bd again. */
+    uint8_t now[JEZYNAR_EXPORT_LEN];
+    answer = jezynar_segment_export(image, now, sizeof now);
+    if (jezynar_exported_number(answer) != JEZYNAR_ACCEPTED) {
+        printf("refused %lu: %s\n", (unsigned long)jezynar_exported_number(answer),
+               jezynar_refusal_text(jezynar_exported_number(answer)));
+        return 1;
+    }
+    print_bytes("list now", now, jezynar_exported_len(answer));
+    return 0;
 }

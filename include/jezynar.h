@@ -4,7 +4,8 @@
  *
  * A segment is an image, JEZYNAR_IMAGE_LEN bytes that the caller keeps between the calls; the library has no state of
  * its own. The first call on new memory is jezynar_segment_new. (Any bytes are an image; but a first opening that is
- * refused leaves what was there.) An image belongs to one version of the library: store meter lists, not images.
+ * refused leaves what was there.) An image belongs to one version of the library: store meter lists, not images;
+ * jezynar_segment_export writes one.
  * Each segment has one image: jezynar_segment_new, jezynar_segment_tidy and an accepted opening write it, and every
  * other call keeps it so. Equal segments then have equal images.
  *
@@ -12,9 +13,9 @@
  * buffer that is written, overlap no other memory of the same call. An empty slice may have any pointer. A thread with
  * 64 KiB of stack is enough for every call. Calls on different images may run at once.
  *
- * A call that can be refused answers 0, or the number of its refusal (enum jezynar_refusal); an opening, a send and the
- * telegram writer answer more than the number, as is said there. A refused call leaves every byte of the image and of
- * the buffers unchanged. Every value of the arguments is taken.
+ * A call that can be refused answers 0, or the number of its refusal (enum jezynar_refusal); an opening, a send, an
+ * export and the telegram writer answer more than the number, as is said there. A refused call leaves every byte of the
+ * image and of the buffers unchanged. Every value of the arguments is taken.
  *
  * The clock of a send or a search: secs, the seconds of the instant, on one scale with the origin of the opening (the
  * meters' values grow with secs - origin; seconds since 1970 for both will do); and the date and time that meters
@@ -44,6 +45,7 @@ extern "C" {
 #define JEZYNAR_PIECE_LEN 1024   /* the longest piece of a send */
 #define JEZYNAR_QUEUE_LEN 4096   /* the most that is queued */
 #define JEZYNAR_TELEGRAM_LEN 261 /* the longest telegram */
+#define JEZYNAR_EXPORT_LEN 2947  /* the longest list of an export: 3 + 46 * JEZYNAR_METERS */
 
 /* Why a call was refused. */
 enum jezynar_refusal {
@@ -59,12 +61,13 @@ enum jezynar_refusal {
     JEZYNAR_METER_FAULT = 9,       /* a fault that is no key */
     JEZYNAR_BAUD = 10,             /* a bus baud that is no rate */
     JEZYNAR_DATA_LENGTH = 11,      /* more than 252 data bytes for a telegram */
-    JEZYNAR_BUFFER_LENGTH = 12,    /* a buffer too short for the telegram */
+    JEZYNAR_BUFFER_LENGTH = 12,    /* a buffer too short for the telegram or the list */
     JEZYNAR_PIECE_TOO_LONG = 13,   /* a piece over JEZYNAR_PIECE_LEN bytes */
     JEZYNAR_CLOCK = 14,            /* a clock field out of range */
     JEZYNAR_QUEUE_FULL = 15,       /* the queue would pass JEZYNAR_QUEUE_LEN bytes */
     JEZYNAR_NOT_EMPTY = 16,        /* input waits or replies are queued, so that a search cannot begin */
-    JEZYNAR_TOO_FEW_ENTRIES = 17   /* fewer entries lent than meters opened */
+    JEZYNAR_TOO_FEW_ENTRIES = 17,  /* fewer entries lent than meters opened */
+    JEZYNAR_HIGH_PRIMARY = 18      /* a meter's primary address is over 250, so that no list can have it */
 };
 
 /* What an entry of a search is. */
@@ -165,6 +168,24 @@ uint32_t jezynar_segment_search(uint8_t image[JEZYNAR_IMAGE_LEN], double secs, u
                                 uint32_t day, uint32_t hour, uint32_t minute, uint32_t allowance, uint8_t *entries,
                                 size_t entries_len, uint8_t summary[JEZYNAR_SUMMARY_LEN]);
 
+/* Writes the segment back as a meter list, for a site that changed addresses or bauds: the meters as they are now, in
+ * segment order, also those at other rates, in the layout of jezynar_segment_open. The own baud is 0 where it equals
+ * the bus baud, the id eight digits, the manufacturer three capital letters (none for a heat_old without one). The list
+ * goes to the front of the buffer; the rest of the buffer, and the image, are unchanged. JEZYNAR_EXPORT_LEN bytes are
+ * always enough.
+ * Opened at the same bus baud without the practice flag, the list is accepted, and its meters are the same in primary
+ * address, id, manufacturer, version, medium, fault and baud. Two segments at one bus baud, neither refused, have the
+ * same list exactly if their meters agree in these. (An image that did not come from calls can have a list that an
+ * opening refuses.)
+ * The list does not say the bus baud: keep it beside the list. At another one the meters with own baud 0 take that one.
+ * Nor does it hold the origin, the practice flag, the waiting input and the queue; nor, of a meter, the seed from which
+ * its values rise, access number, selection, part, last FCB, readouts, and whether a flaky one hears next. All this
+ * begins anew at the opening. So meters that were opened with the practice flag need not read the same values
+ * afterwards; others do, with the same origin.
+ * Answers number * 65536 + bytes written; refused with 18, then 12 (0 written). 18: a telegram gave a meter a primary
+ * address over 250, which no list can have; export again once it has another. */
+uint32_t jezynar_segment_export(const uint8_t image[JEZYNAR_IMAGE_LEN], uint8_t *buffer, size_t buffer_len);
+
 /* ---- telegrams */
 
 /* The telegram in front of some bytes. Answers an enum jezynar_parse, with 256 * due added to JEZYNAR_INCOMPLETE: the
@@ -224,6 +245,17 @@ static inline uint32_t jezynar_sent_number(uint32_t answer)
 }
 
 static inline uint32_t jezynar_sent_due(uint32_t answer)
+{
+    return answer % 65536;
+}
+
+/* Of what an export answers: the number, and how many bytes were written. */
+static inline uint32_t jezynar_exported_number(uint32_t answer)
+{
+    return answer / 65536;
+}
+
+static inline uint32_t jezynar_exported_len(uint32_t answer)
 {
     return answer % 65536;
 }
@@ -324,12 +356,13 @@ static inline const char *jezynar_refusal_text(uint32_t number)
         "an unknown fault",
         "a bus baud that is no rate",
         "more than 252 data bytes",
-        "a buffer too short for the telegram",
+        "a buffer too short for the telegram or the list",
         "a piece over 1,024 bytes",
         "a clock field out of range",
         "the queue would pass 4,096 bytes",
         "input waits or replies are queued",
         "fewer entries lent than meters opened",
+        "a meter's primary address is over 250",
     };
     return number < sizeof texts / sizeof texts[0] ? texts[number] : "no refusal has this number";
 }

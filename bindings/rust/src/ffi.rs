@@ -57,6 +57,7 @@ mod c {
             entries_len: usize,
             summary: *mut u8,
         ) -> u32;
+        pub fn jezynar_segment_export(image: *const u8, lent: *mut u8, lent_len: usize) -> u32;
         pub fn jezynar_frame_parse(bytes: *const u8, bytes_len: usize, out: *mut u8) -> u32;
         pub fn jezynar_frame_encode(
             kind: u8,
@@ -136,6 +137,11 @@ pub fn search(
             summary.as_mut_ptr(),
         )
     }
+}
+
+pub fn export(image: &[u8; IMAGE], lent: &mut [u8]) -> u32 {
+    // SAFETY: the image is IMAGE bytes and is read alone; the lent bytes have their own length, lent for writing.
+    unsafe { c::jezynar_segment_export(image.as_ptr(), lent.as_mut_ptr(), lent.len()) }
 }
 
 pub fn parse(bytes: &[u8], out: &mut [u8; DESCRIPTION]) -> u32 {

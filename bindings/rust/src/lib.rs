@@ -70,6 +70,8 @@
 //! one 12345699
 //! ```
 //!
+//! After address and baud changes, [`Segment::export`] gives the segment back as a list, with an example.
+//!
 //! `examples/serve.rs` puts a segment behind a TCP port, for masters that are programs of their own.
 //! `examples/serial.rs` is a serial task, which reads as many bytes as are due.
 
@@ -88,7 +90,7 @@ mod refusal;
 
 pub use clock::Clock;
 pub use entry::{Entry, EntryKind, Found, Summary};
-pub use refusal::{BaudRefusal, EncodeRefusal, OpenRefusal, SearchRefusal, SendRefusal};
+pub use refusal::{BaudRefusal, EncodeRefusal, ExportRefusal, OpenRefusal, SearchRefusal, SendRefusal};
 
 use std::fmt;
 
@@ -96,6 +98,8 @@ use std::fmt;
 pub const IMAGE: usize = 5974;
 /// The most meters that a segment has, and the most entries that a search gives.
 pub const METERS: usize = 64;
+/// The most bytes that an export has: 3, and 46 for each meter.
+pub const EXPORT: usize = 3 + 46 * METERS;
 
 /// A simulated segment.
 ///
@@ -223,6 +227,91 @@ impl Segment {
             *place = Entry::read(row);
         }
         Ok(Summary { entries, probes: u32::from_le_bytes([p0, p1, p2, p3]), spent: spent != 0 })
+    }
+
+    /// The present meters as a list, for a site that changed addresses or bauds: in segment order, also those at other
+    /// rates, with the own baud 0 where it equals the bus baud.
+    ///
+    /// Opened at the same bus baud without the practice flag, the list is accepted, and its meters are the same in
+    /// primary address, id, manufacturer, version, medium, fault and baud. Two segments at one bus baud, neither
+    /// refused, have the same list exactly if their meters agree in these. (Where [`from_image`] took bytes that no call
+    /// left, there can be a list that an opening refuses.)
+    ///
+    /// # What the list does not hold
+    ///
+    /// The bus baud: keep it beside the list. At another one the meters with own baud 0 take that one.
+    ///
+    /// The origin, the practice flag, the waiting input and the queue; and of a meter the seed from which its values
+    /// rise, access number, selection, part, last FCB, readouts, and whether a flaky one hears next. All this begins
+    /// anew at the opening. So meters that were opened with the practice flag need not read the same values afterwards;
+    /// others do, with the same origin.
+    ///
+    /// # Example
+    ///
+    /// Of two meters, one gets another primary address and one another baud. The list is opened again in place of the
+    /// segment.
+    ///
+    /// ```
+    /// use jezynar::frame::Frame;
+    /// use jezynar::list::{self, Medium, MeterSpec};
+    /// use jezynar::{Clock, Segment};
+    ///
+    /// # fn main() -> Result<(), Box<dyn std::error::Error>> {
+    /// let water = MeterSpec::new(1, "12345678", "SEN", Medium::Water);
+    /// let heat = MeterSpec::new(2, "12345699", "KAM", Medium::Heat);
+    /// let mut segment = Segment::open_list(&list::write(&[water, heat])?, 2400, false, 0.0)?;
+    /// let clock = Clock::from_unix(60.0).ok_or("no such clock")?;
+    ///
+    /// // SND_UD with CI 51 and the data 01 7A 07: the meter at 1 is at 7 from now on.
+    /// let address = Frame::Long { control: 0x53, address: 1, ci: 0x51, data: &[0x01, 0x7A, 7] };
+    /// segment.send(&address.to_vec()?, &clock)?;
+    /// // SND_UD with CI B8 to BF, the eight rates from 300 Bd on: the meter at 2 changes to 9600 Bd.
+    /// let rate = Frame::Long { control: 0x53, address: 2, ci: 0xBD, data: &[] };
+    /// segment.send(&rate.to_vec()?, &clock)?;
+    ///
+    /// let present = segment.export()?;
+    /// let moved = MeterSpec { primary: 7, ..water };
+    /// let faster = MeterSpec { baud: Some(9600), ..heat };
+    /// assert_eq!(present, list::write(&[moved, faster])?);
+    ///
+    /// // At the bus baud of the export, and with the same origin.
+    /// let mut again = Segment::open_list(&present, 2400, false, 0.0)?;
+    /// assert_eq!(again.export()?, present);
+    ///
+    /// // One meter is read at its new address: the reply has the address, CI 72 and the id.
+    /// again.send(&Frame::req_ud2(7, false).to_vec()?, &clock)?;
+    /// let mut reply = [0; 32];
+    /// again.receive(&mut reply);
+    /// assert_eq!(reply[5..11], [7, 0x72, 0x78, 0x56, 0x34, 0x12]);
+    /// again.clear();
+    ///
+    /// // The other is found at its new rate.
+    /// again.set_baud(9600)?;
+    /// let found = again.search(&clock, 100)?;
+    /// assert_eq!(found.entries[0].to_string(), "12345699");
+    /// # Ok(())
+    /// # }
+    /// ```
+    ///
+    /// # Errors
+    /// 18 a meter's primary address is over 250, see [`ExportRefusal`]. 12 cannot occur, because enough bytes are lent.
+    ///
+    /// [`from_image`]: Segment::from_image
+    pub fn export(&self) -> Result<Vec<u8>, ExportRefusal> {
+        let mut list = vec![0; EXPORT];
+        let used = self.export_into(&mut list)?;
+        list.truncate(used);
+        Ok(list)
+    }
+
+    /// Exports as [`export`](Segment::export) does, into the first of the lent bytes, and gives how many the list has;
+    /// further ones stay.
+    ///
+    /// # Errors
+    /// 18 a meter's primary address is over 250; 12 the lent bytes are too few. 18 is checked first. No lent byte is then
+    /// written. [`EXPORT`] bytes are always enough.
+    pub fn export_into(&self, lent: &mut [u8]) -> Result<usize, ExportRefusal> {
+        ExportRefusal::check(ffi::export(&self.image, lent))
     }
 }
 

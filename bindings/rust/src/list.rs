@@ -2,7 +2,8 @@
 //!
 //! A list is the version byte 1, the number of all bytes that follow in two bytes, and a record for each meter. That
 //! the parts fit these lengths is seen to here, and the types of the medium and the fault allow no wrong key; an opening
-//! checks the rest, and that there are at most 64 meters.
+//! checks the rest, and that there are at most 64 meters. [`Segment::export`](crate::Segment::export) gives the list of
+//! a segment back.
 //!
 //! ```
 //! use jezynar::list::{self, Fault, Medium, MeterSpec};

@@ -265,6 +265,74 @@ impl fmt::Display for SearchRefusal {
 
 impl Error for SearchRefusal {}
 
+/// Why an export was refused.
+///
+/// # Example
+///
+/// A telegram can give a meter any primary address, but a list has none over 250. Once the meter has another one, the
+/// segment can be exported. 18 comes before 12.
+///
+/// ```
+/// use jezynar::frame::Frame;
+/// use jezynar::list::{self, Medium, MeterSpec};
+/// use jezynar::{Clock, ExportRefusal, Segment, EXPORT};
+///
+/// # fn main() -> Result<(), Box<dyn std::error::Error>> {
+/// let meters = list::write(&[MeterSpec::new(1, "12345678", "SEN", Medium::Water)])?;
+/// let mut segment = Segment::open_list(&meters, 2400, false, 0.0)?;
+/// let clock = Clock::from_unix(0.0).ok_or("no such clock")?;
+/// // SND_UD with CI 51 and the data 01 7A and the new address.
+/// let readdress = |from, to| Frame::Long { control: 0x53, address: from, ci: 0x51, data: &[0x01, 0x7A, to] }.to_vec();
+///
+/// segment.send(&readdress(1, 251)?, &clock)?;
+/// assert_eq!(segment.export_into(&mut [0; EXPORT]), Err(ExportRefusal::HighPrimary));
+/// assert_eq!(segment.export_into(&mut []), Err(ExportRefusal::HighPrimary));
+///
+/// segment.send(&readdress(251, 250)?, &clock)?;
+/// assert_eq!(segment.export_into(&mut []), Err(ExportRefusal::TooFewBytes));
+/// assert_eq!(segment.export()?, list::write(&[MeterSpec::new(250, "12345678", "SEN", Medium::Water)])?);
+/// # Ok(())
+/// # }
+/// ```
+#[derive(Clone, Copy, Debug, PartialEq, Eq, Hash)]
+pub enum ExportRefusal {
+    /// 18: a meter's primary address is over 250.
+    HighPrimary,
+    /// 12: the lent bytes are too few for the list.
+    TooFewBytes,
+}
+
+impl ExportRefusal {
+    /// The library's answer is number * 65536 + bytes written, with no other numbers.
+    pub(crate) fn check(answer: u32) -> Result<usize, Self> {
+        match answer / 65536 {
+            0 => Ok(answer as usize),
+            18 => Err(ExportRefusal::HighPrimary),
+            _ => Err(ExportRefusal::TooFewBytes),
+        }
+    }
+
+    /// The number of the refusal, 18 or 12.
+    pub fn number(self) -> u32 {
+        match self {
+            ExportRefusal::HighPrimary => 18,
+            ExportRefusal::TooFewBytes => 12,
+        }
+    }
+}
+
+impl fmt::Display for ExportRefusal {
+    fn fmt(&self, f: &mut fmt::Formatter<'_>) -> fmt::Result {
+        let why = match self {
+            ExportRefusal::HighPrimary => "a meter's primary address is over 250, which no list can have",
+            ExportRefusal::TooFewBytes => "the lent bytes are too few for the list",
+        };
+        refused(f, self.number(), why)
+    }
+}
+
+impl Error for ExportRefusal {}
+
 /// Why a telegram was not written.
 #[derive(Clone, Copy, Debug, PartialEq, Eq, Hash)]
 pub enum EncodeRefusal {

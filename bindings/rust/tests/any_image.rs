@@ -2,7 +2,7 @@
 //! (The entry points on such bytes as they are: `src/ffi/tests.rs`.)
 mod common;
 
-use common::{example, is_tidy, opened, two_water, Random, CLOCK, NKE_ALL};
+use common::{example, exported, is_tidy, opened, two_water, Random, CLOCK, NKE_ALL};
 use jezynar::{Segment, IMAGE, METERS};
 
 /// A probe that every id matches, and REQ_UD2 to the selected meters and to all.
@@ -57,6 +57,8 @@ fn every_call(image: &[u8; IMAGE]) -> usize {
     let mut kept = from();
     assert_eq!(kept.receive(&mut []), 0);
     assert!(kept.as_image() == from().as_image());
+    // Nor does an export change it, accepted or not.
+    let _ = exported(&kept);
     let mut entries = search(&mut from(), u32::MAX);
     send(&mut from(), &TELEGRAMS);
     send(&mut from(), &[0xFF; 1024]);
@@ -81,6 +83,7 @@ fn every_call(image: &[u8; IMAGE]) -> usize {
     call(&mut segment, |s| s.set_baud(2400));
     entries += search(&mut segment, u32::MAX);
     assert!(call(&mut segment, |s| s.open(&two_water(), 2400, false, 0.0)).is_some());
+    assert_eq!(exported(&segment), Ok(two_water()));
     assert_eq!(segment.search(&CLOCK, 100).unwrap().entries.len(), 2);
     entries
 }

@@ -1,13 +1,12 @@
 //! Each refusal that a call can give, at its limit where it has one; a refused call leaves the image and what was lent.
+//! (Those of an export: tests/export.rs.)
 mod common;
 
-use common::{example, opened, two_water, water, CLOCK, NKE_ALL};
+use common::{example, opened, two_water, water, CLOCK, NKE_ALL, RATES};
 use jezynar::frame::{encode, Frame};
 use jezynar::list::{self, Fault, ListError, Medium, MeterSpec};
 use jezynar::{BaudRefusal, Clock, EncodeRefusal, Entry, OpenRefusal, SearchRefusal, Segment, SendRefusal, METERS};
 use std::error::Error;
-
-const RATES: [u32; 8] = [300, 600, 1200, 2400, 4800, 9600, 19200, 38400];
 
 /// A segment in use: meters, waiting input and queued replies.
 fn busy() -> Segment {

@@ -177,6 +177,7 @@ fn every_call_on_a_thread_of_64_kib() {
         segment.clear();
         segment.set_baud(2400).unwrap();
         let mut segment = Segment::from_image(segment.as_image());
+        assert_eq!(segment.export(), Ok(worst_case()));
         (segment.search(&CLOCK, 10_000).unwrap(), segment.search_into(&CLOCK, 1, &mut [Entry::default(); 64]).is_ok())
     };
     let thread = std::thread::Builder::new().stack_size(64 * 1024).spawn(calls).unwrap();

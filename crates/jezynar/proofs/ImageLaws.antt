@@ -1,4 +1,4 @@
--- What an opening and a send answer, packed into one number.
+-- What an opening, a send and an export answer, packed into one number.
 use mathlib.Core.Path.{_≡_, ap, _∙_}
 use mathlib.Core.Bool.{Bool}
 use mathlib.Core.List.{List}
@@ -12,6 +12,9 @@ use Rattle.segment.specs.Plain.{Plain}
 use Rattle.segment_send.specs.View.{sendingNumber}
 use Rattle.segment_send.specs.declared.Sending.{Sending}
 use Rattle.segment_send.specs.declared.Sending.the-variants as sending
+use Rattle.segment_export.specs.View.{exportingNumber}
+use Rattle.segment_export.specs.declared.Exporting.{Exporting}
+use Rattle.segment_export.specs.declared.Exporting.the-variants as exporting
 use Rattle.segment_image.specs.Image.{encodeImage, IsImage}
 use Rattle.list_check.proofs.VerdictLaws.{failing-between}
 use Rattle.list_open.proofs.OpeningLaws.{OpensWell, openList-well}
@@ -43,3 +46,10 @@ sending-small (sending.Accepted n) = omega arith
 sending-small sending.PieceTooLong = omega arith
 sending-small sending.ClockOutOfRange = omega arith
 sending-small sending.QueueFull = omega arith
+
+-- ---- export: the number
+
+pub exporting-small : (a : Exporting) → exportingNumber a < 256
+exporting-small (exporting.Bytes n) = omega arith
+exporting-small exporting.HighPrimary = omega arith
+exporting-small exporting.NoRoom = omega arith

@@ -12,10 +12,13 @@ ghost use Rattle.segment_send.specs.Send;
 ghost use Rattle.segment_send.specs.View.{sendingNumber, sendingDue, SentImage};
 ghost use Rattle.segment_image.specs.Image.{decodeImage, imageLen, IsImage};
 ghost use Rattle.segment_image.specs.Answers.{DoneImage, OpenedImage, ReceivedImage, LeftImage};
+ghost use Rattle.segment_export.specs.Export.{exportInto};
+ghost use Rattle.segment_export.specs.View.{exportingNumber, exportingCount, exportedBy};
 ghost use Rattle.c_search.specs.Searches.{searchBy, Searches};
 ghost use Rattle.c_frame.specs.Telegrams.{Parses, telegramBy, Writes};
 use list_check::refusal::Refusal;
 use segment::Segment;
+use segment_export::Exporting;
 use segment_image::IMAGE;
 use segment_send::Sending;
 use time_clock::clock_at;
@@ -124,6 +127,24 @@ pub extern "C" fn jezynar_segment_receive(image: &mut [u8; IMAGE], lent: &mut [u
     ensures { λ r. ⌜ ReceivedImage (Calls.receive (now (lent .entry)) (decodeImage (now (image .entry)))) r (now (lent .exit)) (now (image .entry)) (now (image .exit)) ⌝ }
 {
     segment_calls::receive(image, lent)
+}
+
+// number * 65536 + bytes
+fn packed_exported(answer: Exporting) -> u32
+    ensures { λ r. ⌜ (r ≡ exportingNumber answer * 65536 + exportingCount answer) × (exportingCount answer < 65536) ⌝ }
+{
+    let number = segment_export::exporting_number(answer);
+    let count = segment_export::exporting_count(answer);
+    number * 65536 + (count as u32)
+}
+
+// Writes the present meters as a list, to be opened at the bus baud. 18: a primary above 250; 12: lent bytes too few.
+#[no_mangle]
+pub extern "C" fn jezynar_segment_export(image: &[u8; IMAGE], lent: &mut [u8]) -> u32
+    ensures { λ r. ⌜ exportedBy (r / 65536) (r % 65536) (now (lent .exit)) ≡ exportInto (now (lent .entry)) (decodeImage (now (image .entry))) ⌝ }
+{
+    let answer = segment_export::export(image, lent);
+    packed_exported(answer)
 }
 
 // ---- the search

@@ -1,4 +1,5 @@
--- 01, "Places of refusal": a name for each number, in the table's order, under the words of its condition.
+-- 01, "Places of refusal": a name for each number, in the table's order, under the words of its condition; then 02's
+-- ("18 and later numbers join 01's table").
 use Prim.Native.Nat.{ℕ}
 
 -- a call that is not refused: the number of no place
@@ -57,7 +58,7 @@ refusedBaud = 10
 abbrev pub refusedData : ℕ
 refusedData = 11
 
--- "lent bytes too few"
+-- "lent bytes too few"; of an export "a short buffer"
 abbrev pub refusedRoom : ℕ
 refusedRoom = 12
 
@@ -82,3 +83,9 @@ refusedNotEmpty = 16
 -- search: "fewer entries lent than meters opened"
 abbrev pub refusedEntries : ℕ
 refusedEntries = 17
+
+-- ---- export (Req 04: "18, a primary above 250, then 12, a short buffer")
+
+-- "a primary above 250"
+abbrev pub refusedHighPrimary : ℕ
+refusedHighPrimary = 18

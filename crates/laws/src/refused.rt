@@ -1,5 +1,5 @@
-// The numbers of 01's "Places of refusal", in the table's order, each under its condition. They are those of
-// specs/Refusal.antt.
+// The numbers of 01's "Places of refusal", in the table's order, each under its condition, and those that 02 adds. They
+// are those of specs/Refusal.antt.
 
 // A call that is not refused: the number of no place.
 pub const NOT_REFUSED: u32 = 0;
@@ -29,7 +29,7 @@ pub const BAUD: u32 = 10;
 
 // Telegram writer: data over 252.
 pub const DATA: u32 = 11;
-// Lent bytes too few.
+// Telegram writer, export: lent bytes too few.
 pub const ROOM: u32 = 12;
 
 // Send: piece over 1,024.
@@ -43,3 +43,6 @@ pub const QUEUE: u32 = 15;
 pub const NOT_EMPTY: u32 = 16;
 // Fewer entries lent than meters opened.
 pub const ENTRIES: u32 = 17;
+
+// Export: a primary above 250.
+pub const HIGH_PRIMARY: u32 = 18;

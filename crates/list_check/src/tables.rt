@@ -10,7 +10,7 @@ use meter::Fault;
 use meter::Model;
 
 // A key takes fourteen bytes: its length, its text, and spaces.
-const MEDIA: [u8; 112] = *b"\x04heat         \
+pub const MEDIA: [u8; 112] = *b"\x04heat         \
     \x07cooling      \
     \x05water        \
     \x0Acold_water   \
@@ -20,10 +20,10 @@ const MEDIA: [u8; 112] = *b"\x04heat         \
     \x08heat_old     ";
 
 // The code in the telegram, in MEDIA's order.
-const MEDIA_CODES: [u8; 8] = [0x04, 0x0A, 0x07, 0x16, 0x06, 0x03, 0x02, 0x04];
+pub const MEDIA_CODES: [u8; 8] = [0x04, 0x0A, 0x07, 0x16, 0x06, 0x03, 0x02, 0x04];
 
 // How the meter replies.
-const MEDIA_MODELS: [Model; 8] = [
+pub const MEDIA_MODELS: [Model; 8] = [
     Model::Heat,
     Model::Heat,
     Model::Water,
@@ -34,7 +34,7 @@ const MEDIA_MODELS: [Model; 8] = [
     Model::Fixed,
 ];
 
-const FAULTS: [u8; 98] = *b"\x04none         \
+pub const FAULTS: [u8; 98] = *b"\x04none         \
     \x08checksum     \
     \x09truncated    \
     \x04busy         \

@@ -1,17 +1,19 @@
 -- What a telegram keeps of a meter: whatever its single changes keep. So the id's digits, the manufacturer and the
 -- like never change,
--- and the rate changes by a CI of B8 to BF alone.
+-- and the rate changes by a CI of B8 to BF alone, to one of BAUD_RATES.
 use mathlib.Core.Path.{_≡_, refl}
-use mathlib.Core.Bool.{Bool, true, false, _||_, not}
+use mathlib.Core.Bool.{Bool, true, false, _&&_, _||_, not}
 use mathlib.Core.List.{List}
-use Prim.Native.Nat.{ℕ, _-_}
-use lib.Dec.{eqb}
+use Prim.Native.Nat.{ℕ, _-_, _<_}
+use native.Mathlib.Omega.{arith}
+use lib.Dec.{eqb, leb}
 use lib.Ieee.{Float}
-use lib.ListN.{getD}
+use lib.ListN.{length, getD}
+use borrow.Author.Tests.{leb-true}
 use Rattle.meter.specs.declared.Model.{Model}
 use Rattle.meter.specs.declared.Fault.{Fault}
 use Rattle.laws.specs.Words.{at}
-use Rattle.laws.proofs.Lists.{if-all, if-with}
+use Rattle.laws.proofs.Lists.{if-all, if-with, and-l, and-r}
 use Rattle.frame.specs.Frame.{Telegram, ack, short, long, dataOf}
 use Rattle.meter.specs.PlainMeter.{PlainMeter}
 use Rattle.time_clock.specs.declared.Clock.{Clock}
@@ -26,10 +28,17 @@ setsRate ack = false
 setsRate (short c a) = false
 setsRate (long c a ci d) = setsBaud ci d
 
+-- its rate is one of BAUD_RATES
+rate-number : (ci : ℕ) (d : List ℕ) → setsBaud ci d ≡ true → ci - 0xB8 < length rates
+unfolding rates
+rate-number ci d s =
+    let low = and-l (leb 0xB8 ci && leb ci 0xBF) (eqb (length d) 0) s in
+    omega (arith, leb-true 0xB8 ci (and-l (leb 0xB8 ci) (leb ci 0xBF) low), leb-true ci 0xBF (and-r (leb 0xB8 ci) (leb ci 0xBF) low))
+
 -- P is kept by each change that the telegram t can make
 pub record Closed (t : Telegram) (P : PlainMeter → Type 0) : Type 0 where
   pub primary : (m : PlainMeter) → P m → P (withPrimary (at (dataOf t) 2) m)
-  pub baud : (m : PlainMeter) (b : ℕ) → setsRate t ≡ true → P m → P (withBaud b m)
+  pub baud : (m : PlainMeter) (i : ℕ) → i < length rates → setsRate t ≡ true → P m → P (withBaud (getD rates i 0) m)
   pub selected : (m : PlainMeter) (s : Bool) → P m → P (withSelected s m)
   pub hearing : (m : PlainMeter) (h : Bool) → P m → P (withHearsNext h m)
   pub reset : (m : PlainMeter) → P m → P (reset m)
@@ -61,7 +70,7 @@ module _ {P : PlainMeter → Type 0} {co a ci : ℕ} {d : List ℕ} (c : Closed 
   unfolding commanded
   commanded-keeps =
       if-all (λ (r : Heard). P (r .meter)) (setsPrimary ci d) _ _ (c .primary m h)
-      (if-with (λ (r : Heard). P (r .meter)) (setsBaud ci d) _ _ (λ s. c .baud m (getD rates (ci - 0xB8) 0) s h)
+      (if-with (λ (r : Heard). P (r .meter)) (setsBaud ci d) _ _ (λ s. c .baud m (ci - 0xB8) (rate-number ci d s) s h)
       (λ s. if-all (λ (r : Heard). P (r .meter)) (eqb ci 0x50) _ _ (c .reset m h) h))
 
 module _ {P : PlainMeter → Type 0} (m : PlainMeter) (h : P m) (e : Float) (k : Clock) where
@@ -99,8 +108,7 @@ fixed m =
 module _ (bus : ℕ) (t : Telegram) (e : Float) (k : Clock) (m : PlainMeter) where
   fixed-closed : Closed t (λ n. fixed n ≡ fixed m)
   unfolding asked
-  fixed-closed = record { primary = λ n h. h; baud = λ n b q h. h; selected = λ n s h. h; hearing = λ n b h. h; reset = λ n h. h; asked = λ n fcb h. h }
+  fixed-closed = record { primary = λ n h. h; baud = λ n i l q h. h; selected = λ n s h. h; hearing = λ n b h. h; reset = λ n h. h; asked = λ n fcb h. h }
 
   pub hear-fixed : fixed ((hear bus t e k m) .meter) ≡ fixed m
   hear-fixed = hear-keeps {P = λ n. fixed n ≡ fixed m} m refl e k bus t fixed-closed
-  -- ---- the rate

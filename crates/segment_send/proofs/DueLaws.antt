@@ -37,7 +37,7 @@ steps-wait (suc n) k s h = go (parse (s .input)) refl (steps-wait n k)
     go (incomplete m) e ih = rw (e, steps) (m, e)
     go (invalid why) e ih = rw (e, steps) (nothing-waits [] (omega arith))
 
-handledAll-waits : (k : Clock) (s : Plain) → Incomplete (handledAll k s .input)
+pub handledAll-waits : (k : Clock) (s : Plain) → Incomplete (handledAll k s .input)
 unfolding handledAll
 handledAll-waits k s = steps-wait (length (s .input)) k s (omega arith)
 

@@ -110,3 +110,29 @@ pub(crate) fn find(image: &mut [u8; IMAGE], clock: Clock, arguments: &[u8]) {
     print::line();
     show::entries(found);
 }
+
+// As many bytes as the list of a segment can have.
+fn no_list() -> [u8; 2947]
+    ensures { λ r. ⌜ 2947 ≡ length r ⌝ }
+{
+    [0u8; 2947]
+}
+
+// The bytes written, in hexadecimal.
+fn export_into(image: &[u8; IMAGE], lent: &mut [u8]) {
+    let answer = segment_export::export(image, lent);
+    let count = segment_export::exporting_count(answer) as usize;
+    print::text(b"export");
+    print::next(segment_export::exporting_number(answer) as u64);
+    print::next(print::wide(count));
+    print::blank();
+    print::bytes(script::first(lent, count), 2);
+    print::line();
+}
+
+// How many bytes are lent, at most 2,947.
+pub(crate) fn export(image: &[u8; IMAGE], arguments: &[u8]) {
+    let mut bytes = no_list();
+    let n = least(script::size(arguments), 2947);
+    export_into(image, &mut bytes[0..n])
+}

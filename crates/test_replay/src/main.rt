@@ -45,6 +45,7 @@ fn call(image: &mut [u8; IMAGE], clock: Clock, name: u8, arguments: &[u8]) {
         script::CLEAR => calls::clear(image),
         script::BAUD => calls::set_baud(image, arguments),
         script::SEARCH => calls::find(image, clock, arguments),
+        script::EXPORT => calls::export(image, arguments),
         script::STATE => show::state(segment_image::read_image(image)),
         script::SHORT => show::short_state(segment_image::read_image(image)),
         _ => {}

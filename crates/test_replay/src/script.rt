@@ -23,6 +23,8 @@ pub const SEARCH: u8 = 9;
 
 pub const BUILTIN: u8 = 10;
 
+pub const EXPORT: u8 = 11;
+
 // The first n bytes, or all.
 pub(crate) fn first(s: &[u8], n: usize) -> &[u8] {
     let end = least(n, s.len());
@@ -80,7 +82,7 @@ pub(crate) fn index(s: &[u8]) -> usize
 }
 
 // A word as a count.
-fn size(s: &[u8]) -> usize
+pub(crate) fn size(s: &[u8]) -> usize
     ensures { λ r. ⌜ r < 65536 ⌝ }
 {
     word(s) as usize
@@ -100,6 +102,7 @@ fn wanted(s: &[u8]) -> usize {
         SHORT => 1,
         SEARCH => 6,
         BUILTIN => 15,
+        EXPORT => 3,
         _ => 0,
     }
 }

@@ -1,6 +1,7 @@
 //! A list of calls as data; made on the static library and on the other side alike, and compared.
+use crate::exports::Exports;
 use crate::layout::{fields, records};
-use crate::library::Library;
+use crate::library::{state_of, Library};
 use crate::rust::Rust;
 use reference::Clock;
 use std::cell::Cell;
@@ -16,17 +17,25 @@ pub enum Call {
     SetBaud { baud: u32 },
     /// Lent are bytes, 16 for an entry.
     Search { clock: Clock, allowance: u32, lent: usize },
+    Export { lent: usize },
+    /// The export of any bytes as an image, not of the segment.
+    ExportOf { image: Vec<u8>, lent: usize },
     Parse { bytes: Vec<u8> },
     Encode { kind: u8, control: u8, address: u8, ci: u8, data: Vec<u8>, lent: usize },
 }
 
-/// What lent memory holds before a call, and how many bytes follow it that no call may write.
+/// What memory holds before a call, and how many bytes follow it that no call may write.
 pub const FILL: u8 = 0x55;
 pub const GUARD: usize = 16;
 
+/// What lent memory holds at a place: not the same everywhere, so that bytes that were moved are seen.
+fn fill(place: usize) -> u8 {
+    FILL ^ (place % 251) as u8
+}
+
 /// Memory of `n` bytes to lend, and the guard after it.
 pub fn lend(n: usize) -> Vec<u8> {
-    vec![FILL; n + GUARD]
+    (0..n + GUARD).map(fill).collect()
 }
 
 #[derive(Clone, Debug, PartialEq)]
@@ -55,6 +64,10 @@ const PARTS: [&str; 15] = [
     "seed", "hears next",
 ];
 
+/// The numbers of a meter that an export tells: "primary, id, manufacturer code, version, medium with its model, fault and
+/// baud".
+pub const EXPORTED: [usize; 8] = [0, 1, 2, 3, 4, 5, 6, 8];
+
 pub const NAN: u64 = 0x7ff8_0000_0000_0000;
 
 /// The bits of an origin, every NaN as one.
@@ -72,7 +85,7 @@ pub trait Side {
 pub struct Counts {
     pub calls: u64,
     /// Answers of the calls that can be refused, by number.
-    pub numbers: [u64; 18],
+    pub numbers: [u64; 19],
     /// Answers of the telegram reader.
     pub parsed: [u64; 7],
 }
@@ -83,14 +96,14 @@ impl Call {
         match self {
             Call::Open { .. } => Some(returned % 256),
             Call::Send { .. } | Call::SetBaud { .. } | Call::Search { .. } => Some(returned),
-            Call::Encode { .. } => Some(returned >> 16),
+            Call::Encode { .. } | Call::Export { .. } | Call::ExportOf { .. } => Some(returned >> 16),
             Call::Receive { .. } | Call::Clear | Call::Parse { .. } => None,
         }
     }
 
-    /// A telegram's reading or writing has nothing to do with the segment.
-    fn on_segment(&self) -> bool {
-        !matches!(self, Call::Parse { .. } | Call::Encode { .. })
+    /// An export only reads the segment; a telegram's reading or writing has nothing to do with it.
+    fn changes(&self) -> bool {
+        !matches!(self, Call::Export { .. } | Call::ExportOf { .. } | Call::Parse { .. } | Call::Encode { .. })
     }
 }
 
@@ -130,6 +143,17 @@ fn meters(list: &[u8]) -> String {
     out
 }
 
+/// What an export reads of the segment that an image means.
+fn meant(image: &[u8]) -> String {
+    let state = state_of(image);
+    let mut out = format!("bus baud {}", state.baud);
+    for (k, meter) in state.meters.iter().enumerate() {
+        let parts: Vec<String> = EXPORTED.iter().map(|i| format!("{} {:X}", PARTS[*i], meter[*i])).collect();
+        out += &format!("\n    meter {k}: {}", parts.join(", "));
+    }
+    out
+}
+
 impl fmt::Display for Call {
     fn fmt(&self, f: &mut fmt::Formatter) -> fmt::Result {
         match self {
@@ -141,6 +165,8 @@ impl fmt::Display for Call {
             Call::Clear => write!(f, "clear"),
             Call::SetBaud { baud } => write!(f, "set baud {baud}"),
             Call::Search { clock: c, allowance, lent } => write!(f, "search, allowance {allowance}, {lent} bytes lent, {}", clock(c)),
+            Call::Export { lent } => write!(f, "export, {lent} lent"),
+            Call::ExportOf { image, lent } => write!(f, "export of an image, {lent} lent, {}", meant(image)),
             Call::Parse { bytes } => write!(f, "parse [{}]", hex(bytes)),
             Call::Encode { kind, control, address, ci, data, lent } => {
                 write!(f, "encode kind {kind}, C {control:02X}, A {address:02X}, CI {ci:02X}, data [{}], {lent} lent", hex(data))
@@ -156,7 +182,7 @@ impl fmt::Display for Answer {
             write!(f, ", {} due", self.due)?;
         }
         for lent in &self.lent {
-            let written = lent.iter().rposition(|b| *b != FILL).map_or(0, |k| k + 1);
+            let written = (0..lent.len()).rfind(|k| lent[*k] != fill(*k)).map_or(0, |k| k + 1);
             write!(f, " [{}]", hex(&lent[..written]))?;
         }
         Ok(())
@@ -187,6 +213,7 @@ fn differences(ours: &State, theirs: &State) -> String {
 /// Makes the calls on a new segment of each side; says where they first differ. `told` takes each call with its answer.
 pub fn run_on(calls: &[Call], other: &mut impl Side, counts: &mut Counts, mut told: Option<&mut String>) -> Result<(), String> {
     let mut library = Library::new();
+    let mut exports = Exports::default();
     for call in calls {
         let mut tell = |line: &dyn fmt::Display| {
             if let Some(told) = told.as_deref_mut() {
@@ -203,7 +230,7 @@ pub fn run_on(calls: &[Call], other: &mut impl Side, counts: &mut Counts, mut to
             return Err(format!("the answers differ\n    library {ours}\n    other   {theirs}"));
         }
         let refused = call.number(ours.returned).is_some_and(|n| n != 0);
-        if (refused || !call.on_segment()) && library.memory != before {
+        if (refused || !call.changes()) && library.memory != before {
             return Err("a call that changes nothing changed the image".into());
         }
         if !library.guarded() {
@@ -212,11 +239,14 @@ pub fn run_on(calls: &[Call], other: &mut impl Side, counts: &mut Counts, mut to
         if !library.tidy() {
             return Err("after the call the image is not the one image of its segment".into());
         }
-        if call.on_segment() {
+        if call.changes() {
             let (a, b) = (library.state(), other.state());
             if a != b {
                 return Err(differences(&a, &b));
             }
+        }
+        if matches!(call, Call::Export { .. }) && !refused {
+            exports.add(&library.state(), &ours.lent[0][..ours.returned as usize])?;
         }
     }
     Ok(())

@@ -1,8 +1,10 @@
 //! Lists of calls, random and directed, the same on the static library and on the Rust: every answer, every byte handed
-//! out, every entry and the whole segment after each call are compared. A failing list is shrunk and printed.
+//! out, every entry and the whole segment after each call are compared, and exported lists are opened again. A failing list
+//! is shrunk and printed.
 //! usage: compare [LISTS [FIRST-SEED]]; `compare 1 SEED` makes the random list of one seed, after the directed ones.
 mod calls;
 mod directed;
+mod exports;
 mod layout;
 mod library;
 mod random;

@@ -1,8 +1,10 @@
 //! Lists of calls by a seed.
-use crate::calls::Call;
+use crate::calls::{Call, Side};
+use crate::library::{BUS, COUNT, IMAGE, METER, METERS, PARTS};
+use crate::rust::Rust;
 use oracle::mbus::frame::Frame;
 use oracle::sim::{SimMeter, FAULTS, MEDIA};
-use reference::{list_bytes, Clock};
+use reference::{list_bytes, Clock, EXPORT};
 
 pub struct Random(u64);
 
@@ -192,6 +194,87 @@ fn encode(r: &mut Random) -> Call {
     Call::Encode { kind, control: r.byte(), address: r.byte(), ci: r.byte(), data, lent }
 }
 
+/// How many bytes to lend for a list of so many.
+fn lent_for(r: &mut Random, list: usize) -> usize {
+    match r.below(8) {
+        0 => 0,
+        1 => r.below(list as u64 + 1) as usize,
+        2 => list.saturating_sub(1),
+        3 => list + 1,
+        4 => list + r.below(300) as usize,
+        5 => EXPORT,
+        _ => list,
+    }
+}
+
+/// An export of such a kind, with lengths around that of its list.
+fn export(r: &mut Random, rust: &mut Rust, of: impl Fn(usize) -> Call) -> Call {
+    let list = rust.answer(&of(EXPORT)).returned % 65_536;
+    of(lent_for(r, list as usize))
+}
+
+/// A telegram that changes addresses or bauds.
+fn change(r: &mut Random) -> Call {
+    let address = address(r);
+    let (ci, data) = if r.one_in(2) { (0x51, vec![1, 0x7A, r.of(&[0, 9, 250, 250, 251, 255])]) } else { (0xB8 + r.below(8) as u8, vec![]) };
+    Call::Send { piece: Frame::Long { control: 0x53, address, ci, data }.encode(), clock: clock(r) }
+}
+
+/// Bytes that nobody wrote as an image. Some tell fewer meters, most no primary above 250, and codes, faults and bauds that
+/// a segment can have are among them.
+fn image(r: &mut Random) -> Vec<u8> {
+    let mut out: Vec<u8> = (0..IMAGE).map(|_| r.byte()).collect();
+    if r.one_in(2) {
+        out[COUNT..COUNT + 2].copy_from_slice(&r.of(&[0u16, 1, 2, 5, 63, 64, 65]).to_le_bytes());
+    }
+    let bus = if r.one_in(2) { r.of(&RATES) } else { r.next() as u32 }.to_le_bytes();
+    out[BUS..BUS + 4].copy_from_slice(&bus);
+    let high = r.one_in(6);
+    for meter in out[METERS..].chunks_mut(METER) {
+        let at = |part: usize| PARTS[part]..PARTS[part + 1];
+        if !(high && r.one_in(8)) {
+            meter[0] %= 251;
+        }
+        match r.below(4) {
+            0 => meter[at(2)].fill(0),
+            1 => meter[at(8)].copy_from_slice(&bus),
+            _ => {}
+        }
+        if r.one_in(2) {
+            (meter[PARTS[4]], meter[PARTS[5]]) = (r.of(&MEDIA).1, r.below(5) as u8);
+        }
+        if r.one_in(2) {
+            meter[PARTS[6]] = r.below(8) as u8;
+        }
+    }
+    out
+}
+
+/// Puts exports into a list of calls, and telegrams for them to tell; an image's export comes at the end. This has a
+/// generator of its own, so that the other calls of a seed do not depend on it.
+fn with_exports(r: &mut Random, calls: Vec<Call>) -> Vec<Call> {
+    // The segment as the calls leave it, but for searches, which change nothing that an export tells.
+    let mut rust = Rust::new();
+    let mut out = Vec::new();
+    for call in calls {
+        let more = if r.one_in(3) { Some(change(r)) } else { None };
+        for call in [Some(call), more].into_iter().flatten() {
+            if !matches!(call, Call::Search { .. }) {
+                rust.answer(&call);
+            }
+            out.push(call);
+            if r.one_in(2) {
+                out.push(export(r, &mut rust, |lent| Call::Export { lent }));
+            }
+        }
+    }
+    if r.one_in(2) {
+        let image = image(r);
+        out.push(export(r, &mut rust, |lent| Call::ExportOf { image: image.clone(), lent }));
+    }
+    out
+}
+
 /// The list of a seed. It begins with an opening, and some telegrams are read and written at its end.
 pub fn list_of(seed: u64) -> Vec<Call> {
     let mut r = Random::new(seed);
@@ -221,5 +304,6 @@ pub fn list_of(seed: u64) -> Vec<Call> {
         };
         calls.push(call);
     }
-    calls
+    let mut own = Random::new(!seed);
+    if own.one_in(2) { with_exports(&mut own, calls) } else { calls }
 }

@@ -1,6 +1,8 @@
-//! The Rust's side: the unchanged Rust, with what 01 and the differences' page add to it, in the library's form.
+//! The Rust's side: the unchanged Rust, with what 01, 02 and the differences' page add to it, in the library's form.
 use crate::calls::{lend, origin_bits, Answer, Call, Side, State};
+use crate::library::state_of;
 use oracle::mbus::frame::{self, Frame, Parse};
+use oracle::sim::{MeterView, View};
 use reference::{due, Clock, Entry, Segment};
 
 /// The most data that a long telegram's length byte can tell.
@@ -98,6 +100,40 @@ fn encode(frame: Frame, lent: usize) -> Answer {
     Answer { returned, due: 0, lent: vec![out] }
 }
 
+/// The segment that has these parts; of a model and a fault past the last one the last.
+fn view_of(s: State) -> View {
+    let meter = |m: &[u32; 15]| MeterView {
+        primary: m[0] as u8,
+        id: m[1],
+        manufacturer: m[2] as u16,
+        version: m[3] as u8,
+        medium: m[4] as u8,
+        model: m[5].min(3) as u8,
+        fault: m[6].min(6) as u8,
+        access: m[7] as u8,
+        baud: m[8],
+        selected: m[9] != 0,
+        part: m[10] as usize,
+        last_fcb: (m[11] != 0).then_some(m[11] != 1),
+        readouts: m[12],
+        seed: m[13],
+        hears_next: m[14] != 0,
+    };
+    View { baud: s.baud, origin: f64::from_bits(s.origin), meters: s.meters.iter().map(meter).collect(), input: s.input, queue: s.queue }
+}
+
+/// The Rust has no export: 02's, as it is over every segment.
+fn export(v: &View, lent: usize) -> Answer {
+    let mut out = lend(lent);
+    let (number, count) = reference::export(v, &mut out[..lent]);
+    Answer { returned: (number as u64) << 16 | count as u64, due: 0, lent: vec![out] }
+}
+
+/// The export of a segment that has these parts.
+pub fn export_of(state: State, lent: usize) -> Answer {
+    export(&view_of(state), lent)
+}
+
 impl Side for Rust {
     fn answer(&mut self, call: &Call) -> Answer {
         let plain = |returned: u64| Answer { returned, due: 0, lent: Vec::new() };
@@ -118,6 +154,8 @@ impl Side for Rust {
             }
             Call::SetBaud { baud } => plain(self.segment.set_baud(*baud) as u64),
             Call::Search { clock, allowance, lent } => self.search(*clock, *allowance, *lent),
+            Call::Export { lent } => export(&self.segment.view(), *lent),
+            Call::ExportOf { image, lent } => export_of(state_of(image), *lent),
             Call::Parse { bytes } => parse(bytes),
             Call::Encode { kind, control, address, ci, data, lent } => {
                 let (control, address) = (*control, *address);

@@ -2,6 +2,7 @@
 //! Every step has fewer calls, fewer bytes, a smaller number or one more plain value, so that shrinking ends.
 use crate::calls::Call;
 use crate::layout::{fields, list_of, record_of, records};
+use crate::library::{state_of, BUS, COUNT, METER, METERS};
 use oracle::mbus::frame::{self, Frame, Parse};
 use reference::Clock;
 
@@ -12,7 +13,7 @@ pub type Fails<'a> = &'a mut dyn FnMut(&[Call]) -> bool;
 
 pub fn shrink(mut calls: Vec<Call>, fails: Fails) -> Vec<Call> {
     loop {
-        let mut smaller = drop_calls(&mut calls, fails) | join_sends(&mut calls, fails);
+        let mut smaller = drop_calls(&mut calls, fails) | join_sends(&mut calls, fails) | shorten_with_exports(&mut calls, fails);
         for k in 0..calls.len() {
             smaller |= simplify(&mut calls, k, fails);
         }
@@ -54,6 +55,39 @@ fn join_sends(calls: &mut Vec<Call>, fails: Fails) -> bool {
         }
     }
     calls.len() < before
+}
+
+/// Makes the list of an opening shorter, and with it what exports lend, so that their lists just fit or just do not as before.
+fn shorten_with_exports(calls: &mut Vec<Call>, fails: Fails) -> bool {
+    let mut smaller = false;
+    if calls.iter().any(|call| matches!(call, Call::Export { .. })) {
+        for k in 0..calls.len() {
+            while let Some(next) = shorter_with_exports(calls, k).into_iter().find(|next| fails(next)) {
+                *calls = next;
+                smaller = true;
+            }
+        }
+    }
+    smaller
+}
+
+/// Each shorter list for the opening at a place; every export behind it lends as many bytes less.
+fn shorter_with_exports(calls: &[Call], k: usize) -> Vec<Vec<Call>> {
+    let Call::Open { list: long, .. } = &calls[k] else { return vec![] };
+    let with = |short: Vec<u8>| {
+        let (mut next, less) = (calls.to_vec(), long.len() - short.len());
+        for call in &mut next[k..] {
+            if let Call::Export { lent } = call {
+                *lent = lent.saturating_sub(less);
+            }
+        }
+        if let Call::Open { list, .. } = &mut next[k] {
+            *list = short;
+        }
+        next
+    };
+    let lists = [shorter_lists(long), plainer_lists(long)].concat();
+    lists.into_iter().filter(|short| short.len() < long.len()).map(with).collect()
 }
 
 /// Makes one call smaller, again and again. What was tried before a success is not tried again after it: the next round does that.
@@ -107,6 +141,12 @@ fn smaller_calls(call: &Call) -> Vec<Call> {
             try_each!(plainer_clocks(clock), Search, clock);
             try_each!(fewer(*allowance as u64).map(|n| n as u32), Search, allowance);
             try_each!(fewer(*lent as u64).map(|n| n as usize), Search, lent);
+        }
+        Call::Export { lent } => try_each!(fewer(*lent as u64).map(|n| n as usize), Export, lent),
+        Call::ExportOf { image, lent } => {
+            try_each!(fewer_meters(image), ExportOf, image);
+            try_each!(fewer(*lent as u64).map(|n| n as usize), ExportOf, lent);
+            try_each!(more_zeros(image), ExportOf, image);
         }
         Call::Parse { bytes } => {
             try_each!(shorter_pieces(bytes), Parse, bytes);
@@ -184,6 +224,33 @@ fn zeroed(bytes: &[u8]) -> Vec<Vec<u8>> {
         next
     };
     (0..bytes.len()).filter(|k| bytes[*k] != 0).map(zero).collect()
+}
+
+/// Images with nothing but the bus baud and the meters, then with fewer meters; those that are left move to the front.
+fn fewer_meters(image: &[u8]) -> Vec<Vec<u8>> {
+    let meters: Vec<&[u8]> = image[METERS..].chunks(METER).take(state_of(image).meters.len()).collect();
+    let with = |left: Vec<&[u8]>| {
+        let mut next = vec![0; METERS];
+        next[BUS..BUS + 4].copy_from_slice(&image[BUS..BUS + 4]);
+        next[COUNT..COUNT + 2].copy_from_slice(&(left.len() as u16).to_le_bytes());
+        next.extend(left.concat());
+        next.resize(image.len(), 0);
+        next
+    };
+    let mut out = other(image.to_vec(), with(meters.clone()));
+    out.extend(without_runs(&meters).map(|[a, b]| with([a, b].concat())));
+    out
+}
+
+/// Images in which a run of the bytes that are not 0 is 0.
+fn more_zeros(image: &[u8]) -> Vec<Vec<u8>> {
+    let places: Vec<usize> = (0..image.len()).filter(|k| image[*k] != 0).collect();
+    let with = |left: [&[usize]; 2]| {
+        let mut next = vec![0; image.len()];
+        left.concat().iter().for_each(|k| next[*k] = image[*k]);
+        next
+    };
+    without_runs(&places).map(with).collect()
 }
 
 /// Fewer telegrams, then shorter telegrams, then fewer bytes.

@@ -1,16 +1,17 @@
 //! That a failing list is shrunk to the least, that faults put into the other side are seen, that the directed lists
-//! reach the limits and tell apart the rules by which a failing record could be named; that the number of bytes due is
-//! the least.
-use crate::calls::{hex, run, run_on, transcript, Answer, Call, Counts, Side, State, GUARD};
+//! reach the limits and tell apart the rules by which a failing record could be named, and wrong exports from the right
+//! one; that the number of bytes due is the least.
+use crate::calls::{hex, lend, run, run_on, transcript, Answer, Call, Counts, Side, State, GUARD};
 use crate::directed;
-use crate::layout::{fields, list_of, records};
-use crate::library::Library;
+use crate::exports::Exports;
+use crate::layout::{fields, list_of, record_of, records};
+use crate::library::{state_of, Library};
 use crate::random::{list_of as random_list, RATES};
-use crate::rust::Rust;
+use crate::rust::{export_of, Rust};
 use crate::shrink::{shrink, Fails, PLAIN};
 use oracle::mbus::frame::{self, Frame, Parse};
 use oracle::sim::{FAULTS, MEDIA};
-use reference::{due, Clock, METERS};
+use reference::{due, Clock, EXPORT, METERS};
 use std::collections::HashSet;
 use std::ops::RangeInclusive;
 
@@ -64,6 +65,9 @@ fn numbers_become_least() {
     let calls = shrink(found(6, &mut fails), &mut fails);
     let [Call::Search { clock, allowance, lent }] = &calls[..] else { panic!("{calls:?}") };
     assert_eq!((clock, *allowance, *lent), (&PLAIN, 7, 101));
+    let mut fails = |calls: &[Call]| calls.iter().any(|c| matches!(c, Call::Export { lent: 101.. }));
+    let calls = shrink(found(6, &mut fails), &mut fails);
+    assert!(matches!(&calls[..], [Call::Export { lent: 101 }]), "{calls:?}");
 }
 
 /// A fault in the answers.
@@ -354,6 +358,167 @@ fn one_list_tells_four_rules_apart() {
     }
 }
 
+/// A wrong export of a segment that has these parts, into so many lent bytes.
+type WrongExport = fn(State, usize) -> Answer;
+
+/// The Rust with a fault put into its exports.
+struct WronglyExporting(Rust, WrongExport);
+
+impl Side for WronglyExporting {
+    fn answer(&mut self, call: &Call) -> Answer {
+        match call {
+            Call::Export { lent } => self.1(self.0.state(), *lent),
+            _ => self.0.answer(call),
+        }
+    }
+    fn state(&self) -> State {
+        self.0.state()
+    }
+}
+
+/// The export of a segment whose meters were changed first; the change takes the bus baud too.
+fn of_changed(mut state: State, lent: usize, change: fn(&mut [u32; 15], u32)) -> Answer {
+    let bus = state.baud;
+    state.meters.iter_mut().for_each(|m| change(m, bus));
+    export_of(state, lent)
+}
+
+/// An export's answer, changed where it is accepted; the change takes the number of bytes written and of those lent.
+fn accepted(state: State, lent: usize, change: fn(&mut Answer, usize, usize)) -> Answer {
+    let mut answer = export_of(state, lent);
+    if answer.returned < 65_536 {
+        let written = answer.returned as usize;
+        change(&mut answer, written, lent);
+    }
+    answer
+}
+
+fn too_short(lent: usize) -> Answer {
+    Answer { returned: 12 << 16, due: 0, lent: vec![lend(lent)] }
+}
+
+/// 12 before 18.
+fn buffer_first(state: State, lent: usize) -> Answer {
+    let length = of_changed(state.clone(), EXPORT, |m, _| m[0] = 0).returned as usize;
+    if lent < length { too_short(lent) } else { export_of(state, lent) }
+}
+
+fn written_though_refused(state: State, lent: usize) -> Answer {
+    let mut answer = export_of(state, lent);
+    if answer.returned >= 65_536 && lent > 0 {
+        answer.lent[0][0] = 1;
+    }
+    answer
+}
+
+/// Wrong exports, each with the most calls that are left of a list that shows it: the refusals, the meters, the parts of a
+/// meter, the lent bytes.
+const WRONG_EXPORTS: [(&str, WrongExport, usize); 16] = [
+    ("a short buffer before a high primary", buffer_first, 3),
+    ("a primary of 250 is refused", |s, lent| of_changed(s, lent, |m, _| m[0] += (m[0] == 250) as u32), 3),
+    ("a primary of 251 is 250", |s, lent| of_changed(s, lent, |m, _| m[0] -= (m[0] == 251) as u32), 3),
+    ("a high primary at another baud is not seen", |s, lent| of_changed(s, lent, |m, bus| m[0] = if m[8] == bus { m[0] } else { m[0].min(250) }), 4),
+    ("the last meter is left out", |s, lent| export_of(State { meters: s.meters[..s.meters.len().saturating_sub(1)].to_vec(), ..s }, lent), 2),
+    ("the last meter comes first", |s, lent| export_of(State { meters: s.meters.iter().rev().copied().collect(), ..s }, lent), 2),
+    ("every own baud is written", |s, lent| export_of(State { baud: 0, ..s }, lent), 2),
+    ("no own baud is written", |s, lent| of_changed(s, lent, |m, bus| m[8] = bus), 2),
+    ("own bauds against 2400", |s, lent| export_of(State { baud: 2400, ..s }, lent), 2),
+    ("heat_old is heat", |s, lent| of_changed(s, lent, |m, _| m[5] *= (m[5] != 3) as u32), 2),
+    ("no manufacturer is AAA", |s, lent| of_changed(s, lent, |m, _| m[2] = if m[2] == 0 { 0x0421 } else { m[2] }), 2),
+    ("a selected meter is version 0", |s, lent| of_changed(s, lent, |m, _| m[3] *= 1 - m[9]), 3),
+    ("a buffer of the list's length is too short", |s, lent| accepted(s, lent, |a, n, lent| if n == lent { *a = too_short(lent) }), 1),
+    ("the rest of the buffer is cleared", |s, lent| accepted(s, lent, |a, n, lent| a.lent[0][n..lent].fill(0)), 1),
+    ("the rest of the buffer is moved", |s, lent| accepted(s, lent, |a, n, lent| a.lent[0][n..lent].rotate_left((lent > n) as usize)), 1),
+    ("a refused one writes", written_though_refused, 1),
+];
+
+/// Every wrong export gives other answers than the right one in some directed lists.
+#[test]
+fn a_wrong_export_is_seen() {
+    const ENOUGH: u32 = 200;
+    let mut seen = [0; WRONG_EXPORTS.len()];
+    directed::all(&mut |_, calls| {
+        if !calls.iter().any(|call| matches!(call, Call::Export { .. })) {
+            return;
+        }
+        let mut rust = Rust::new();
+        for call in &calls {
+            let right = rust.answer(call);
+            if let Call::Export { lent } = call {
+                for (seen, (_, wrong, _)) in seen.iter_mut().zip(WRONG_EXPORTS).filter(|(seen, _)| **seen < ENOUGH) {
+                    *seen += (wrong(rust.state(), *lent) != right) as u32;
+                }
+            }
+        }
+    });
+    for ((name, ..), seen) in WRONG_EXPORTS.iter().zip(seen) {
+        assert!(seen >= ENOUGH, "{name}: {seen}");
+    }
+}
+
+/// What is left of a random list against each wrong export.
+#[test]
+fn a_wrong_export_is_shrunk() {
+    for (name, wrong, most) in WRONG_EXPORTS {
+        let mut fails = |c: &[Call]| run_on(c, &mut WronglyExporting(Rust::new(), wrong), &mut Counts::default(), None).is_err();
+        let calls = shrink(found(8, &mut fails), &mut fails);
+        assert!(matches!(calls.last(), Some(Call::Export { .. })) && calls.len() <= most, "{name}: {calls:?}");
+    }
+}
+
+/// The digit 15 of an image's first meter is written as F.
+fn fifteen_is_f(call: &Call, a: &mut Answer) {
+    if matches!(call, Call::ExportOf { .. }) {
+        a.lent[0].iter_mut().take(19).skip(11).filter(|b| **b == b'?').for_each(|b| *b = b'F');
+    }
+}
+
+/// Of an image one meter is left, and of that and of what tells it no byte that does not show the fault.
+#[test]
+fn a_wrong_export_of_an_image_is_shrunk() {
+    let not_zero = |image: &[u8]| image.iter().filter(|b| **b != 0).count();
+    let calls = left(|call, a| a.returned -= ((matches!(call, Call::ExportOf { .. }) && a.returned == 18 << 16) as u64) << 16, |_| {});
+    let [Call::ExportOf { image, lent: 0 }] = &calls[..] else { panic!("{calls:?}") };
+    assert_eq!((state_of(image).meters.len(), not_zero(image)), (1, 2));
+    let calls = left(fifteen_is_f, |_| {});
+    let [Call::ExportOf { image, .. }] = &calls[..] else { panic!("{calls:?}") };
+    assert_eq!((state_of(image).meters.len(), not_zero(image)), (1, 2));
+}
+
+/// A list that is not the export of the segment, though it may open to equal meters.
+#[test]
+fn what_holds_of_exports_is_seen() {
+    let meter = |primary: u8, own: u32| [vec![primary, 1], own.to_be_bytes().to_vec(), b"\x0812345678\x03KAM\x04heat\x04none".to_vec()].concat();
+    let list = list_of(&[meter(1, 0), meter(2, 300)]);
+    let mut rust = Rust::new();
+    rust.answer(&Call::Open { list: list.clone(), baud: 2400, practice: false, origin: 0.0 });
+    let state = rust.state();
+    let changed = |field: usize, bytes: &[u8]| {
+        let mut all = fields(&meter(1, 0)).unwrap();
+        all[field] = bytes.to_vec();
+        list_of(&[record_of(&all), meter(2, 300)])
+    };
+    assert_eq!(Exports::default().add(&state, &list), Ok(()));
+    let why = |list: &[u8]| Exports::default().add(&state, list).unwrap_err();
+    assert_eq!(why(&list[1..]), "library: the exported list is refused with 1");
+    assert_eq!(why(&changed(0, &[251])), "library: the exported list is refused with 4");
+    assert_eq!(why(&changed(2, &2400u32.to_be_bytes())), "library: opened again, the list is exported otherwise");
+    for (field, bytes) in [(0, &b"\x07"[..]), (1, b"\0"), (2, b"\0\0\x25\x80"), (3, b"12345679"), (4, b"SEN"), (5, b"heat_old"), (6, b"busy")] {
+        assert_eq!(why(&changed(field, bytes)), "library: the exported list opens to other meters", "{field}");
+    }
+    // Beside another export, at the same bus baud.
+    let after = |state: &State, list: &[u8]| {
+        let mut exports = Exports::default();
+        exports.add(&rust.state(), &changed(2, &[0; 4])).unwrap();
+        exports.add(state, list)
+    };
+    let mut other = state.clone();
+    other.meters[0][8] = 9600;
+    assert_eq!(after(&state, &list), Ok(()));
+    assert!(after(&other, &list).unwrap_err().contains("differ in their meters and not in their bytes"));
+    assert!(after(&state, &changed(0, &[9])).unwrap_err().contains("differ in their bytes and not in their meters"));
+}
+
 /// A segment with waiting input, a queue and 64 meters: no byte of the image that means something is left out.
 #[test]
 fn every_byte_of_an_image_is_seen() {
@@ -388,6 +553,8 @@ fn name(call: &Call) -> &'static str {
         Call::Send { .. } => "send",
         Call::SetBaud { .. } => "set baud",
         Call::Search { .. } => "search",
+        Call::Export { .. } => "export",
+        Call::ExportOf { .. } => "export of an image",
         Call::Encode { .. } => "encode",
         Call::Receive { .. } | Call::Clear | Call::Parse { .. } => "never refused",
     }
@@ -405,6 +572,7 @@ fn limits_are_met() {
             met.extend(call.number(returned).map(|n| (name(call), n as u32)));
             met.extend(matches!(call, Call::Open { .. }).then_some(("named", returned as u32)));
             met.insert((if call.number(returned).is_some() { "due" } else { "due, read" }, due as u32));
+            met.extend(matches!(call, Call::Export { .. }).then_some(("exported", returned as u32)));
             let s = rust.state();
             met.extend([("input", s.input.len() as u32), ("queue", s.queue.len() as u32), ("meters", s.meters.len() as u32)]);
             for m in &s.meters {
@@ -420,6 +588,8 @@ fn limits_are_met() {
     wanted.extend((4..=9).flat_map(|n| (0..METERS as u32).map(move |k| ("named", n + 256 * k))));
     wanted.extend([("set baud", 10), ("encode", 11), ("encode", 12), ("send", 13), ("send", 14), ("send", 15)]);
     wanted.extend([("search", 14), ("search", 16), ("search", 17), ("part", 1), ("readouts", 2), ("readouts", 3)]);
+    wanted.extend([0, 12, 18].iter().flat_map(|n| [("export", *n), ("export of an image", *n)]));
+    wanted.extend([("exported", 3), ("exported", EXPORT as u32)]);
     wanted.extend((0..=260).map(|n| ("input", n)));
     wanted.extend((0..=255).map(|n| ("access", n)));
     // The most is what is left of the longest telegram behind its header.

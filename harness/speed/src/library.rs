@@ -19,6 +19,7 @@ extern "C" {
         image: *mut u8, secs: f64, year: u32, month: u32, day: u32, hour: u32, minute: u32, allowance: u32, entries: *mut u8, len: usize,
         summary: *mut u8,
     ) -> u32;
+    fn jezynar_segment_export(image: *const u8, lent: *mut u8, len: usize) -> u32;
 }
 
 pub fn new(image: &mut Image) {
@@ -50,6 +51,12 @@ pub fn clear(image: &mut Image) {
 
 pub fn set_baud(image: &mut Image, baud: u32) -> u32 {
     unsafe { jezynar_segment_set_baud(image.as_mut_ptr(), baud) }
+}
+
+/// The number, and how many bytes were written.
+pub fn export(image: &Image, lent: &mut [u8]) -> (u32, usize) {
+    let answer = unsafe { jezynar_segment_export(image.as_ptr(), lent.as_mut_ptr(), lent.len()) };
+    (answer / 65_536, answer as usize % 65_536)
 }
 
 /// With every probe allowed.

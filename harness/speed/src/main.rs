@@ -1,12 +1,12 @@
-//! The time of the exported calls of libjezynar.a against the Rust's own, both in one run and on one thread, and of the routines
-//! that make BCD values; then the stack that each call takes.
+//! The time of the exported calls of libjezynar.a against the Rust's own, both in one run and on one thread, of an export against
+//! `reference`, and of the routines that make BCD values; then the stack that each call takes.
 //! usage: speed [ROUNDS]; the least of the rounds is taken on either side.
 use library::{Image, ENTRIES, IMAGE, SUMMARY};
 use oracle::link::Link;
 use oracle::mbus::frame::{self, Frame, Parse};
 use oracle::sim::{set_secs, SimMeter, Simulator};
 use oracle::{set_now, Stamp};
-use reference::{list_bytes, Clock};
+use reference::{list_bytes, Clock, Segment, EXPORT};
 use std::hint::black_box;
 use std::time::{Duration, Instant};
 
@@ -212,6 +212,29 @@ fn opening(rounds: u32) {
     show("opening of 64 meters", least(rounds, CALLS, ours, rust), 0.6);
 }
 
+/// The Rust has no export: `reference` writes the list from the meters that the Rust has.
+fn export(rounds: u32, list: &[SimMeter]) -> [f64; 2] {
+    const CALLS: u32 = 200;
+    let (image, mut segment) = (opened(list), Segment::new());
+    assert_eq!(segment.open(&list_bytes(list), 2400, false, 0.0), (0, 0));
+    let written = list_bytes(list);
+    let (mut ours, mut theirs) = ([0; EXPORT], [0; EXPORT]);
+    assert_eq!((library::export(&image, &mut ours), segment.export(&mut theirs)), ((0, written.len()), (0, written.len())));
+    assert_eq!((&ours[..written.len()], ours), (&written[..], theirs));
+    let ours = || timed(|| (0..CALLS).for_each(|_| assert_eq!(library::export(black_box(&image), &mut ours).0, 0)));
+    let rust = || timed(|| (0..CALLS).for_each(|_| assert_eq!(segment.export(black_box(&mut theirs)).0, 0)));
+    least(rounds, CALLS, ours, rust)
+}
+
+/// The cost goes by the number of meters: of four times as many it is at most four times, and the goal leaves room for noise.
+fn exports(rounds: u32) {
+    let (few, all) = (export(rounds, &many()[..16]), export(rounds, &many()));
+    show("export of 16 meters, against reference", few, 0.3);
+    show("export of 64 meters, against reference", all, 0.3);
+    let times = all[0] / few[0];
+    println!("{:<44} {times:>9.2} times   goal 4.5{}", "export of 64 meters, against that of 16", if times > 4.5 { "   over" } else { "" });
+}
+
 /// So many segments are made ready, untimed, and then timed together, so that reading the clock does not count.
 const COPIES: u32 = 16;
 
@@ -278,6 +301,7 @@ fn main() {
         sends(rounds, &format!("reading, {medium}, one of 64 meters"), &list, &Frame::req_ud2(77, false).encode(), 0.6);
     }
     opening(rounds);
+    exports(rounds);
     search(rounds);
     short_calls(rounds);
     bcd::show_all(rounds);

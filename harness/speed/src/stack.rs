@@ -5,7 +5,7 @@ use crate::library::{self, Image, ENTRIES, IMAGE, SUMMARY};
 use crate::{many, nke_all, opened, pairs, queued, select, NOON, SEARCHED};
 use oracle::mbus::frame::{self, Frame};
 use oracle::sim::MEDIA;
-use reference::list_bytes;
+use reference::{list_bytes, EXPORT};
 use std::arch::asm;
 
 const GOAL: usize = 65_536;
@@ -115,6 +115,20 @@ fn search() -> usize {
     bytes
 }
 
+/// Of 64 meters, the most that there can be, with the longest texts.
+fn export() -> usize {
+    let mut longest = many();
+    for meter in &mut longest {
+        meter.medium = "electricity".into();
+        meter.fault = "wrong_address".into();
+    }
+    let (image, mut lent) = (opened(&longest), [0; EXPORT]);
+    let mut answer = (0, 0);
+    let bytes = taken(|| answer = library::export(&image, &mut lent));
+    assert_eq!(answer, (0, EXPORT));
+    bytes
+}
+
 pub fn show_all() {
     show("new", new());
     show("tidy", tidy());
@@ -124,4 +138,5 @@ pub fn show_all() {
     show("clear", clear());
     show("set_baud", set_baud());
     show("search", search());
+    show("export", export());
 }

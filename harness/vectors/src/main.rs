@@ -1,5 +1,6 @@
 //! Writes a sample of the Rust's answers: a script of calls (`stdin` of the program `test_replay`) and what the Rust gives
 //! for it (`stdout`). usage: vectors DIR [search], with searches
+mod exports;
 mod meters;
 mod sample;
 mod segments;
@@ -23,6 +24,7 @@ fn main() {
     meters::collisions(&mut s);
     segments::pieces(&mut s);
     segments::queue(&mut s);
+    exports::exports(&mut s);
     if with_search {
         segments::searches(&mut s);
     }

@@ -1,7 +1,7 @@
 //! A sample in the making: the script of calls, and what the Rust gives for it.
 use oracle::mbus::frame::Frame;
 use oracle::sim::builtins;
-use reference::{list_bytes, Clock, Entry, Segment};
+use reference::{list_bytes, Clock, Entry, Segment, EXPORT};
 use std::fmt::Write;
 
 /// Calls go to the script and to the Rust alike; what the Rust gives goes to `out`.
@@ -140,6 +140,22 @@ impl Sample {
         let v = self.segment.view();
         let at_bus = v.meters.iter().filter(|m| m.baud == v.baud).count();
         writeln!(self.out, "short {} {} {} {}", v.baud, hex(&v.input), v.queue.len(), at_bus).unwrap();
+    }
+
+    /// The segment as a list, into so many lent bytes.
+    pub fn export(&mut self, lent: usize) {
+        self.script.push(11);
+        self.word(lent);
+        let mut buf = vec![0; lent];
+        let (number, count) = self.segment.export(&mut buf);
+        writeln!(self.out, "export {number} {count} {}", hex(&buf[..count])).unwrap();
+    }
+
+    /// Exports into as many bytes as the list has, and into one less.
+    pub fn exports(&mut self) {
+        let (_, count) = self.segment.export(&mut [0; EXPORT]);
+        self.export(count);
+        self.export(count.saturating_sub(1));
     }
 
     pub fn search(&mut self, allowance: u32, lent: usize) {

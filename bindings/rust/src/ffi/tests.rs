@@ -3,6 +3,7 @@
 
 use super::*;
 use crate::list::{self, Medium, MeterSpec};
+use crate::EXPORT;
 
 type Image = [u8; IMAGE];
 
@@ -45,6 +46,22 @@ fn an_opening_answers_a_number_and_an_index() {
     }
 }
 
+/// Number * 65536 + bytes written, of which a refused export has 0.
+#[test]
+fn an_export_answers_a_number_and_a_count() {
+    let [empty, mut opened, _] = images();
+    let mut lent = [0xAA; EXPORT + 1];
+    assert_eq!((export(&empty, &mut lent), &lent[..4]), (3, &[1, 0, 0, 0xAA][..]));
+    assert_eq!(export(&empty, &mut lent[..2]), 12 * 65536);
+    assert_eq!(export(&opened, &mut lent), meters().len() as u32);
+    assert_eq!(lent[..meters().len()], meters());
+    // SND_UD with CI 51: every meter that listens gets the address 251.
+    let readdress = [0x68, 0x06, 0x06, 0x68, 0x53, 0xFE, 0x51, 0x01, 0x7A, 0xFB, 0x18, 0x16];
+    assert_eq!(send(&mut opened, &readdress, &CLOCK), 1);
+    assert_eq!(export(&opened, &mut lent), 18 * 65536);
+    assert_eq!(export(&opened, &mut []), 18 * 65536);
+}
+
 /// A call, which gives the number of its refusal and what it hands out: what was lent, as it is after the call, or how
 /// many bytes are due.
 type Call = fn(&mut Image) -> (u32, Vec<u8>);
@@ -70,6 +87,13 @@ fn searches(image: &mut Image, allowance: u32, lent: usize) -> (u32, Vec<u8>) {
     (number, [entries.as_flattened(), &summary].concat())
 }
 
+fn exports(image: &Image, lent: usize) -> (u32, Vec<u8>) {
+    let mut bytes = vec![0xAA; lent];
+    let answer = export(image, &mut bytes);
+    // The number, how many bytes were written, and all that were lent.
+    (answer / 65536, [&(answer % 65536).to_le_bytes(), &bytes[..]].concat())
+}
+
 /// These write the image whole.
 const WHOLE: [Call; 3] = [
     |image| {
@@ -83,7 +107,7 @@ const WHOLE: [Call; 3] = [
     |image| (open(image, &meters(), 9600, true, f64::NAN), vec![]),
 ];
 
-const OTHERS: [Call; 15] = [
+const OTHERS: [Call; 18] = [
     |image| {
         clear(image);
         NEVER_REFUSED
@@ -102,6 +126,9 @@ const OTHERS: [Call; 15] = [
     |image| searches(image, 5, 3),
     |image| searches(image, 5, 2),
     |image| (open(image, &[1, 0, 1], 2400, false, 0.0), vec![]),
+    |image| exports(image, EXPORT),
+    |image| exports(image, 3),
+    |image| exports(image, 0),
 ];
 
 /// The images of segments with nothing, with meters, and with a queue and waiting input as well.

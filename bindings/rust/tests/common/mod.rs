@@ -2,11 +2,14 @@
 #![allow(dead_code)]
 
 use jezynar::list::{self, Medium, MeterSpec};
-use jezynar::{Clock, Segment, METERS};
+use jezynar::{Clock, ExportRefusal, Segment, EXPORT, METERS};
 use std::path::{Path, PathBuf};
 
 /// The listing program's clock.
 pub const CLOCK: Clock = Clock { secs: 0.0, year: 2026, month: 10, day: 1, hour: 0, minute: 0 };
+
+/// The rates of a bus, in the order of CI B8 to BF.
+pub const RATES: [u32; 8] = [300, 600, 1200, 2400, 4800, 9600, 19200, 38400];
 
 /// SND_NKE to every meter.
 pub const NKE_ALL: [u8; 5] = [0x10, 0x40, 0xFE, 0x3E, 0x16];
@@ -58,6 +61,22 @@ pub fn worst_case() -> Vec<u8> {
 /// Whether what a segment holds is its one image: to tidy it once more changes nothing.
 pub fn is_tidy(segment: &Segment) -> bool {
     Segment::from_image(segment.as_image()).as_image() == segment.as_image()
+}
+
+/// The list of a segment. The image, and lent bytes past the list, must stay; of a refused export every lent byte.
+pub fn exported(segment: &Segment) -> Result<Vec<u8>, ExportRefusal> {
+    let before = *segment.as_image();
+    let mut lent = vec![0xAA; EXPORT + 40];
+    let answer = segment.export_into(&mut lent);
+    assert!(*segment.as_image() == before, "an export changed the image");
+    let used = answer.unwrap_or(0);
+    assert!(used <= EXPORT && lent[used..].iter().all(|byte| *byte == 0xAA));
+    lent.truncate(used);
+    let list = answer.map(|_| lent);
+    // So many bytes as are always enough are lent here: never 12.
+    assert!(!matches!(list, Err(ExportRefusal::TooFewBytes)));
+    assert_eq!(segment.export(), list);
+    list
 }
 
 /// All queued bytes.

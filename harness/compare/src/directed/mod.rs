@@ -1,5 +1,6 @@
 //! Lists of calls that go to every limit, and through all short inputs.
 mod due;
+mod exports;
 mod failing;
 mod openings;
 mod searches;
@@ -25,6 +26,7 @@ pub fn all(each: Each) {
     due::lists(each);
     times::lists(each);
     searches::lists(each);
+    exports::lists(each);
     telegrams::lists(each);
 }
 
@@ -129,6 +131,10 @@ fn set_baud(baud: u32) -> Call {
 
 fn search(allowance: u32, entries: usize) -> Call {
     Call::Search { clock: PLAIN, allowance, lent: entries * 16 }
+}
+
+fn export(lent: usize) -> Call {
+    Call::Export { lent }
 }
 
 fn parse(bytes: impl Into<Vec<u8>>) -> Call {

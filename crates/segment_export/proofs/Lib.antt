@@ -1,0 +1,4 @@
+pub mod HighLaws
+pub mod RecordsLaws
+pub mod ListLaws
+pub mod Theorems

@@ -1,0 +1,4 @@
+pub mod Export
+pub mod ProgramExport
+pub mod Theorems
+pub mod View
