@@ -1,4 +1,6 @@
 // Telegrams read and written, as numbers and bytes.
+#![tactic(auto)]
+
 ghost use Rattle.std.specs.Prelude.{◌≡◌, List, [], ◌∷◌, ◌++◌, ℕ, ◌+◌, ◌*◌, ◌<◌};
 ghost use Rattle.numbers.specs.Values.{little};
 ghost use Rattle.frame_write.specs.Writer.{write};

@@ -51,7 +51,7 @@ fn put(lent: &mut [u8], p: usize, bytes: &[u8])
     requires { p + length bytes.now ≤ length lent.old }
     ensures { lent.new ≡ paste lent.old p bytes.now (length bytes.now) }
 {
-    bytes::copy(bytes, &mut lent[p..]);
+    laws::copy(bytes, &mut lent[p..]);
 }
 
 // The first count entries, 16 bytes each; the bytes past them stay.

@@ -1,4 +1,6 @@
 // A search over an image, as numbers and bytes.
+#![tactic(auto)]
+
 ghost use Rattle.segment_image.specs.Image.{decode_image};
 ghost use Rattle.c_search.specs.Searches.{search_by, Searches};
 

@@ -1,4 +1,6 @@
 // M-Bus link layer (EN 13757-2): telegrams, and how they are read from bytes.
+#![tactic(auto)]
+
 ghost use Rattle.std.specs.Prelude.{◌≡◌};
 ghost use Rattle.frame.specs.Frame.{sum, parse_short_value, parse_long_value};
 ghost use Rattle.frame.specs.View.{data_at, Finds};
@@ -61,7 +63,7 @@ pub const CI_VARIABLE: u8 = 0x72;
 pub const CI_FIXED: u8 = 0x73;
 
 // A telegram; the data of a long one stand beside it, as a part of a slice.
-#[derive(Drop)]
+#[derive(Clone, Copy)]
 pub enum Frame {
     Ack,
     Short { control: u8, address: u8 },
@@ -69,7 +71,7 @@ pub enum Frame {
 }
 
 // Why bytes are no telegram.
-#[derive(Drop)]
+#[derive(Clone, Copy)]
 pub enum Why {
     Checksum,
     Stop,
@@ -80,7 +82,7 @@ pub enum Why {
 
 // What parsing finds: a telegram with the number of its data bytes, which `data_of` gives, and of all bytes used;
 // more bytes are needed, and how many at least; or the bytes are no telegram.
-#[derive(Drop)]
+#[derive(Clone, Copy)]
 pub enum ParseOutcome {
     Complete {
         frame: Frame,

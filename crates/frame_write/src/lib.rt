@@ -1,4 +1,6 @@
 // The telegram writer: a telegram written into lent bytes.
+#![tactic(auto)]
+
 ghost use Rattle.std.specs.Prelude.{◌≡◌};
 ghost use Rattle.frame.specs.View.{telegram_of};
 ghost use Rattle.frame_write.specs.Writer.{write};
@@ -9,7 +11,7 @@ use frame::Frame;
 mod writing; // writing.rt: each kind of telegram written into lent bytes
 
 // What writing answers: the number of bytes written, or a refusal.
-#[derive(Drop)]
+#[derive(Clone, Copy)]
 pub enum WriteOutcome {
     Bytes(usize),
     DataTooLong,

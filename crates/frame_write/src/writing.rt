@@ -46,7 +46,7 @@ fn put_data(data: &[u8], lent: &mut [u8], from: usize)
     requires { from + length «data».now ≤ length lent.old }
     ensures { lent.new ≡ take from lent.old ++ «data».now ++ drop (from + length «data».now) lent.old }
 {
-    bytes::copy(data, &mut lent[from..]);
+    laws::copy(data, &mut lent[from..]);
 }
 
 // The two bytes after the data.

@@ -1,4 +1,6 @@
 // The entry points of the static library. The segment is an image that the caller keeps between the calls.
+#![tactic(auto)]
+
 ghost use Rattle.std.specs.Prelude.{◌≡◌, ◌+◌, ◌*◌, ◌/◌, ◌%◌, ◌<◌};
 ghost use Rattle.frame.specs.Frame;
 ghost use Rattle.frame_write.specs.Writer.{write};

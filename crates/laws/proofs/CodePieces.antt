@@ -1,5 +1,5 @@
 -- A piece of a function's code, for a walk by hand.
-use mir.Syntax.{Body, seq, skip, assign, block, loop, cond, switch, exit, return, call}
+use mir.Syntax.{Body, seq, skip, assign, block, loop, cond, switch, exit, return, call, unreachable, call_v, lend_static}
 
 -- what follows the first statement of two
 abbrev pub after : Body → Body
@@ -13,3 +13,6 @@ after (switch c arms) = skip
 after (exit n) = skip
 after return = skip
 after (call g vs p) = skip
+after unreachable = skip
+after (call_v _ _ _ _) = skip
+after (lend_static _ _ _) = skip

@@ -1,5 +1,5 @@
 pub mod CodePieces
-pub mod Copy
+pub mod Copying
 pub mod Lists
 pub mod Rows
 pub mod Sweep

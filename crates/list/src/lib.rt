@@ -1,4 +1,6 @@
 // The meter list: its byte layout, and a reader over its bytes.
+#![tactic(auto)]
+
 pub mod layout; // layout.rt: the bytes of a record and of the whole list
 
 ghost use Rattle.std.specs.Prelude.{◌≡◌};
@@ -7,14 +9,14 @@ ghost use Rattle.list.specs.ProgramReading.{at_of_value, next_of};
 use layout::record_at;
 
 // Where a text stands in the list.
-#[derive(Drop)]
+#[derive(Clone, Copy)]
 pub struct Text {
     pub start: usize,
     pub len: usize,
 }
 
 // A record of the list: its numbers, and where its texts stand.
-#[derive(Drop)]
+#[derive(Clone, Copy)]
 pub struct Listed {
     pub primary: u8,
     pub version: u8,
@@ -26,7 +28,7 @@ pub struct Listed {
 }
 
 // What stands at a position: a record and the position past it, bytes that are no record, or nothing.
-#[derive(Drop)]
+#[derive(Clone, Copy)]
 pub enum Step {
     Record(Listed, usize),
     Bad,
@@ -34,7 +36,7 @@ pub enum Step {
 }
 
 // The whole layout: the number of records; under 3 bytes, or byte 0 is not 1; or a length does not fit.
-#[derive(Drop)]
+#[derive(Clone, Copy)]
 pub enum Shape {
     Fits(usize),
     Unversioned,
@@ -42,14 +44,14 @@ pub enum Shape {
 }
 
 // A reader over the list's bytes.
-#[derive(Drop)]
+#[derive(Clone, Copy)]
 pub struct Reader<'a> {
     pub list: &'a [u8],
     pub at: usize,
 }
 
 // What `next` hands back: the step, and the reader past it.
-#[derive(Drop)]
+#[derive(Clone, Copy)]
 pub struct Read<'a> {
     pub reader: Reader<'a>,
     pub step: Step,

@@ -1,4 +1,6 @@
 // The built-in lists, as bytes in the list layout: byte 0 and the count, then one record a line.
+#![tactic(auto)]
+
 ghost use Rattle.std.specs.Prelude.{◌≡◌};
 ghost use Rattle.list_builtin.specs.Builtins;
 

@@ -1,4 +1,6 @@
 // The rules of a record of the meter list, with the texts and tables that they need.
+#![tactic(auto)]
+
 pub mod check; // check.rt: a record against the rules
 pub mod refusal; // refusal.rt: what an opening answers
 pub mod tables; // tables.rt: keys and codes of media and faults, and the rates
@@ -7,7 +9,7 @@ mod texts; // texts.rt: texts as parts of the list
 use meter::{Fault, Model};
 
 // The rule that a record fails, 4 to 9.
-#[derive(Drop)]
+#[derive(Clone, Copy)]
 pub enum Failing {
     BadPrimary,
     BadId,
@@ -18,14 +20,14 @@ pub enum Failing {
 }
 
 // The own baud of a record: the bus's at opening, or one of its own.
-#[derive(Drop)]
+#[derive(Clone, Copy)]
 pub enum OwnBaud {
     AsBus,
     Own(u32),
 }
 
 // The values of a record that passes. `id` has the id's digits as nibbles, `number` is the id as a decimal number.
-#[derive(Drop)]
+#[derive(Clone, Copy)]
 pub struct Values {
     pub primary: u8,
     pub version: u8,
@@ -39,7 +41,7 @@ pub struct Values {
 }
 
 // What `check` gives.
-#[derive(Drop)]
+#[derive(Clone, Copy)]
 pub enum Checked {
     Passes(Values),
     Fails(Failing),

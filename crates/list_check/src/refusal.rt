@@ -7,7 +7,7 @@ use crate::Failing;
 use laws::refused;
 
 // Accepted, or what an opening is refused with: 1, 2, 3, 4 to 9 with the record's index, 10.
-#[derive(Drop)]
+#[derive(Clone, Copy)]
 pub enum Refusal {
     Accepted,
     Version,

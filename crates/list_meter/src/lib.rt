@@ -1,4 +1,6 @@
 // The meter that an opening begins with for a record.
+#![tactic(auto)]
+
 ghost use Rattle.std.specs.Prelude.{◌≡◌};
 ghost use Rattle.list_meter.specs.Fresh.{other_than_bus_value, seed_from};
 ghost use Rattle.list_meter.specs.ProgramFresh.{baud_from, fresh_of};

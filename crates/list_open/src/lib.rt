@@ -1,4 +1,6 @@
 // The meters that an opening of a meter list begins with.
+#![tactic(auto)]
+
 pub mod opening; // opening.rt: fresh meters gathered one after another
 
 ghost use Rattle.std.specs.Prelude.{◌≡◌};
@@ -16,7 +18,7 @@ use opening::{Progress, bring, finished, no_meters, spare_meters};
 pub const METERS: usize = 64;
 
 // What an opening gives: the first `count` of `meters`. A refused one has none.
-#[derive(Drop)]
+#[derive(Clone, Copy)]
 pub struct Meters {
     pub refusal: Refusal,
     pub meters: [Meter; METERS],

@@ -13,14 +13,14 @@ use list_meter::fresh;
 use meter::{Meter, blank_meter};
 
 // How far an opening has come: the meters stored, and what the first failing record refuses it with.
-#[derive(Drop)]
+#[derive(Clone, Copy)]
 pub(crate) struct Progress {
     pub refusal: Refusal,
     pub count: usize,
 }
 
 // What a step of the reader brings: the meter for the place of the count, and the progress after it.
-#[derive(Drop)]
+#[derive(Clone, Copy)]
 pub(crate) struct Brought {
     pub meter: Meter,
     pub progress: Progress,

@@ -1,4 +1,6 @@
 // The record of a meter in a list, written as bytes.
+#![tactic(auto)]
+
 ghost use Rattle.meter.specs.View.{plain_meter};
 ghost use Rattle.list_write.specs.Record.{record_for};
 ghost use Rattle.list_write.specs.ProgramRecord.{IsRest, record_bytes, Appends};
@@ -15,7 +17,7 @@ mod texts; // texts.rt: a text, put behind its length
 pub const REST: usize = 45;
 
 // The rest of a record, after its length byte: the first `len` of these bytes.
-#[derive(Drop)]
+#[derive(Clone, Copy)]
 pub struct Rest {
     pub bytes: [u8; REST],
     pub len: usize,

@@ -7,7 +7,7 @@ pub(crate) fn put(to: &mut [u8], at: usize, more: &[u8]) -> usize
     requires { at + length more.now ≤ length to.old }
     ensures { Puts more.now at to.old result to.new }
 {
-    bytes::copy(more, &mut to[at..]);
+    laws::copy(more, &mut to[at..]);
     at + more.len()
 }
 

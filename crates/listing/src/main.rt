@@ -1,11 +1,13 @@
 // Reads a meter list from standard input, at most 65,536 bytes, and writes what a search of its meters finds.
+#![tactic(auto)]
+
 ghost use Rattle.std.specs.Prelude.{◌+◌, ◌≤◌, length};
 ghost use Rattle.io.specs.Counts.{IsPrefixLen};
 
 use libc::{STDERR_FILENO, STDIN_FILENO, STDOUT_FILENO};
 
 // Bytes that were read, and whether reading failed.
-#[derive(Drop)]
+#[derive(Clone, Copy)]
 struct Input {
     count: usize,
     failed: bool,

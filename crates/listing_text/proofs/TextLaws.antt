@@ -8,7 +8,7 @@ use native.Mathlib.Omega.{arith}
 use lib.ListN.{length, take, drop, set, get_or, length-append, length-take, length-set, drop_of_length-le}
 use lib.Seq.{paste, paste-zero, length-paste, length-take-le, take-length, take_at, drop_at, drop-drop, drop-cons, drop-set-lt, get_or-set_same}
 use borrow.Author.Tests.{le-ltb, lt-ltb}
-use Rattle.laws.proofs.Copy.{Copied, take_min}
+use Rattle.laws.proofs.Copying.{Copied, take_min}
 use Rattle.search.specs.declared.EntryRecord.{EntryRecord}
 use Rattle.listing_text.specs.Text.{in_decimal, number_text, line, lines, first_line, report_of, Wrote, Prints}
 

@@ -1,4 +1,6 @@
 // What the listing program writes for what it reads.
+#![tactic(auto)]
+
 ghost use Rattle.std.specs.Prelude.{◌≡◌};
 ghost use Rattle.search.specs.Site.{october};
 ghost use Rattle.listing_text.specs.Listing.{list_in, listing_of};

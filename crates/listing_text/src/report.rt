@@ -14,11 +14,11 @@ fn append(out: &mut [u8], at: usize, bytes: &[u8]) -> usize
     requires { (at + length bytes.now ≤ room) × (length out.old ≡ room) }
     ensures { Wrote out.old at bytes.now result out.new }
 {
-    at + bytes::copy(bytes, &mut out[at..])
+    at + laws::copy(bytes, &mut out[at..])
 }
 
 // A number's digits and where they begin.
-#[derive(Drop)]
+#[derive(Clone, Copy)]
 struct Spelled {
     digits: [u8; 10],
     from: usize,
@@ -137,7 +137,7 @@ fn append_first(out: &mut [u8; TEXT], entries: u32, probes: u32) -> usize
 }
 
 // The lent bytes with a text at their start, and its length.
-#[derive(Drop)]
+#[derive(Clone, Copy)]
 pub struct Printed {
     pub bytes: [u8; TEXT],
     pub len: usize,

@@ -1,4 +1,6 @@
 // A simulated meter: what it keeps, and the changes of its parts.
+#![tactic(auto)]
+
 ghost use Rattle.std.specs.Prelude.{◌≡◌, get_or};
 ghost use Rattle.meter.specs.Meter.{rates};
 ghost use Rattle.meter.specs.View.{blank_meter_value};
@@ -19,7 +21,7 @@ pub fn rate_of(n: u8) -> u32
     0
 }
 
-#[derive(Drop)]
+#[derive(Clone, Copy)]
 pub enum Fault {
     None,
     Checksum,
@@ -34,7 +36,7 @@ pub enum Fault {
     TooMany,
 }
 
-#[derive(Drop)]
+#[derive(Clone, Copy)]
 pub enum Model {
     Heat,
     Electricity,
@@ -44,7 +46,7 @@ pub enum Model {
 }
 
 // The alternation bit of the last REQ_UD2, if there was one.
-#[derive(Drop)]
+#[derive(Clone, Copy)]
 pub enum LastFcb {
     Never,
     Clear,
@@ -52,7 +54,7 @@ pub enum LastFcb {
 }
 
 // What an opening fixes.
-#[derive(Drop)]
+#[derive(Clone, Copy)]
 pub struct Built {
     // eight BCD digits, the most significant one in the highest nibble
     pub id: u32,
@@ -66,7 +68,7 @@ pub struct Built {
 }
 
 // What calls change. The bytes stand together, so that they are copied as one word.
-#[derive(Drop)]
+#[derive(Clone, Copy)]
 pub struct State {
     pub primary: u8,
     pub access: u8,
@@ -80,7 +82,7 @@ pub struct State {
     pub baud: u32,
 }
 
-#[derive(Drop)]
+#[derive(Clone, Copy)]
 pub struct Meter {
     pub built: Built,
     pub state: State,

@@ -1,4 +1,6 @@
 // Whom a telegram concerns, worked out once for each telegram. The test of a meter is then a few operations on numbers.
+#![tactic(auto)]
+
 ghost use Rattle.std.specs.Prelude.{◌≡◌, Bool, true, false, ◌||◌, [], ◌∷◌, ℕ, ◌*◌, ◌<◌};
 ghost use Rattle.numbers.specs.Number.{number};
 ghost use Rattle.frame.specs.Frame.{long};
@@ -15,7 +17,7 @@ use numbers::four;
 // The selected, if they are sought; and those whose first bytes in an image (primary address, id and three more, low
 // byte first) have the
 // bits wanted where the mask has them. Under mask 0 everybody has 0, and nobody 1.
-#[derive(Drop)]
+#[derive(Clone, Copy)]
 pub struct Seeking {
     pub selected: bool,
     pub mask: u64,

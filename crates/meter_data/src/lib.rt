@@ -1,4 +1,6 @@
 // The data of a meter's reply, by its model, and of an error.
+#![tactic(auto)]
+
 ghost use Rattle.std.specs.Prelude.{◌≡◌, [], ◌∷◌, ◌++◌};
 ghost use Rattle.meter_data.specs.ProgramData.{Put};
 ghost use Rattle.meter_data.specs.UserData.{fixed_data_value, head, clock_f, heat_first_value, heat_second_value, heat_now, electricity, water};
@@ -12,7 +14,7 @@ use time_clock::Clock;
 mod records; // records.rt: bytes and records put behind data
 
 // A reply's data in the making: the first `len` bytes. A telegram has nine more, so each fits a reply.
-#[derive(Drop)]
+#[derive(Clone, Copy)]
 pub struct Data {
     pub bytes: [u8; 87],
     pub len: usize,

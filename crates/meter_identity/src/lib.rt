@@ -1,4 +1,6 @@
 // How ids and manufacturers are written into bytes.
+#![tactic(auto)]
+
 ghost use Rattle.std.specs.Prelude.{◌≡◌, ◌-◌, ◌%◌};
 ghost use Rattle.numbers.specs.Values.{little};
 ghost use Rattle.meter_identity.specs.Identity.{capital, manufacturer_code_value};

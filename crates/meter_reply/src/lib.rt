@@ -1,4 +1,6 @@
 // The bytes that a meter replies to a REQ_UD2, and what its fault makes of them.
+#![tactic(auto)]
+
 ghost use Rattle.std.specs.Prelude.{◌≡◌, ◌≤◌, length, replicate};
 ghost use Rattle.frame.specs.Protocol.{c_rsp_ud};
 ghost use Rattle.frame.specs.Frame.{encode, long};
@@ -15,7 +17,7 @@ use meter_data::Data;
 use time_clock::Clock;
 
 // A reply: the first `len` bytes. The longest one has 84.
-#[derive(Drop)]
+#[derive(Clone, Copy)]
 pub struct Reply {
     pub bytes: [u8; 96],
     pub len: usize,

@@ -1,4 +1,6 @@
 // A meter that is asked for its readout: which part it sends, and what it counts.
+#![tactic(auto)]
+
 ghost use Rattle.std.specs.Prelude.{◌≡◌};
 ghost use Rattle.meter_request.specs.Asking.{next_part_value, part_now_value, readouts_now_value, fcb_now_value, asked};
 ghost use Rattle.meter.specs.View.{plain_meter};

@@ -1,4 +1,6 @@
 // A select's mask against a meter.
+#![tactic(auto)]
+
 ghost use Rattle.std.specs.Prelude.{◌≡◌, ◌||◌, [], ◌∷◌, ◌+◌, ◌*◌, ◌/◌, ◌%◌, ◌≤◌, eqb, length};
 ghost use Rattle.meter_identity.specs.Identity.{nibbles, digits_of_value};
 ghost use Rattle.meter_select.specs.Matching.{alike, matches, id_matches_value};

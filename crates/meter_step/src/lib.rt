@@ -1,4 +1,6 @@
 // What a telegram does to a simulated meter, and what the meter answers.
+#![tactic(auto)]
+
 ghost use Rattle.std.specs.Prelude.{◌≡◌, Float};
 ghost use Rattle.frame.specs.View.{telegram_of};
 ghost use Rattle.time_clock.specs.declared.Clock.{Clock};
@@ -13,7 +15,7 @@ mod steps; // steps.rt: what each telegram does to a meter that listens
 mod telegrams; // telegrams.rt: which telegram it is, and whether it is for a meter
 
 // No reply, one E5, or the readout of the meter as it is then. The bytes of a readout are made by `readout`.
-#[derive(Drop)]
+#[derive(Clone, Copy)]
 pub enum Answer {
     Silent,
     Ack,
@@ -21,7 +23,7 @@ pub enum Answer {
 }
 
 // A meter after a telegram, and its answer.
-#[derive(Drop)]
+#[derive(Clone, Copy)]
 pub struct Heard {
     pub meter: Meter,
     pub answer: Answer,

@@ -1,4 +1,6 @@
 // Numbers as bytes, low byte first: written, as such or in BCD, and read.
+#![tactic(auto)]
+
 ghost use Rattle.std.specs.Prelude.{◌+◌, ◌*◌, ◌/◌, ◌%◌, ◌<◌, [], ◌∷◌, ◌≡◌};
 ghost use Rattle.numbers.specs.Number.{number};
 ghost use Rattle.numbers.specs.Values.{little, bcd};

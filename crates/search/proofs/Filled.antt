@@ -5,7 +5,7 @@ use Prim.Native.Nat.{ℕ, ◌+◌, ◌≤◌, ◌<◌}
 use native.Mathlib.Nat.{zero-add}
 use native.Mathlib.Omega.{arith}
 use lib.ListN.{length, take, drop, set, length-append, length-take, length-drop}
-use Rattle.laws.proofs.Copy.{Copied, copied_more, copied_front}
+use Rattle.laws.proofs.Copying.{Copied, copied_more, copied_front}
 use Rattle.time_clock.specs.declared.Clock.{Clock}
 use Rattle.segment_image.specs.Image.{decode_image}
 use Rattle.search.specs.declared.EntryRecord.{EntryRecord}

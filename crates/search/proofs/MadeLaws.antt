@@ -6,7 +6,7 @@ use Prim.Native.Nat.{ℕ, ◌≤◌, min}
 use native.Mathlib.Omega.{arith}
 use lib.ListN.{length, take, drop, length-take, length-map}
 use Rattle.laws.specs.Words.{Every}
-use Rattle.laws.proofs.Copy.{take_min}
+use Rattle.laws.proofs.Copying.{take_min}
 use Rattle.laws.proofs.Lists.{every_map}
 use Rattle.meter.specs.PlainMeter.{PlainMeter}
 use Rattle.time_clock.specs.declared.Clock.{Clock}

@@ -11,7 +11,7 @@ use lib.Seq.{take_all}
 use Rattle.laws.proofs.Lists.{map-take}
 use Rattle.laws.specs.Words.{Every, bit_if}
 use Rattle.meter_identity.specs.Identity.{digits_of_value}
-use Rattle.laws.proofs.Copy.{Copied, copied_none, copied_more, copied_first, copied_front}
+use Rattle.laws.proofs.Copying.{Copied, copied_none, copied_more, copied_first, copied_front}
 use Rattle.meter.specs.PlainMeter.{PlainMeter}
 use Rattle.meter.specs.Meter.{with}
 use Rattle.meter.specs.View.{plain_meter}

@@ -1,5 +1,7 @@
 // The search: the meters of a segment's image are packed into numbers, the walk runs over these, and what it found
 // and left is unpacked.
+#![tactic(auto)]
+
 ghost use Rattle.std.specs.Prelude.{◌≡◌, ◌<◌};
 ghost use Rattle.list_open.specs.Opening.{capacity};
 ghost use Rattle.segment_image.specs.Image.{decode_image};
@@ -17,7 +19,7 @@ use time_clock::{Clock, good_clock};
 mod pack;
 
 // The kinds of entries.
-#[derive(Drop)]
+#[derive(Clone, Copy)]
 pub enum Kind {
     One,
     Mute,
@@ -26,7 +28,7 @@ pub enum Kind {
 
 // An entry as the caller lends it: its kind; the eight digits of its id or mask, most significant first, F for
 // unknown; the E5 counted.
-#[derive(Drop)]
+#[derive(Clone, Copy)]
 pub struct EntryRecord {
     pub kind: Kind,
     pub digits: [u8; 8],
@@ -34,7 +36,7 @@ pub struct EntryRecord {
 }
 
 // A search was made, or why it was refused.
-#[derive(Drop)]
+#[derive(Clone, Copy)]
 pub enum SearchOutcome {
     Made,
     ClockOutOfRange,
@@ -54,7 +56,7 @@ pub fn outcome_number(outcome: SearchOutcome) -> u32
 }
 
 // What a search gives beside the segment: the first `count` entries are those found.
-#[derive(Drop)]
+#[derive(Clone, Copy)]
 pub struct Entries {
     pub outcome: SearchOutcome,
     pub entries: [EntryRecord; METERS],
@@ -129,7 +131,7 @@ fn search_core(image: &mut [u8; IMAGE], clock: Clock, allowance: u32, room: usiz
 }
 
 // What a search answers; the entries found are in the first `count` of the lent records.
-#[derive(Drop)]
+#[derive(Clone, Copy)]
 pub struct Searched {
     pub outcome: SearchOutcome,
     pub count: usize,

@@ -1,4 +1,6 @@
 // The walk over packed meters: each is two numbers, its key and its mark (marks.rt).
+#![tactic(auto)]
+
 ghost use Rattle.std.specs.Prelude.{◌≡◌, replicate};
 ghost use Rattle.list_open.specs.Opening.{capacity};
 ghost use Rattle.search_packed.specs.ProgramPacked.{Goes};
@@ -10,7 +12,7 @@ mod marks;
 mod walk;
 
 // What a walk gives: the first `found` entries are those found; the marks are those that it leaves.
-#[derive(Drop)]
+#[derive(Clone, Copy)]
 pub struct Found {
     pub entries: [u64; METERS],
     pub found: usize,

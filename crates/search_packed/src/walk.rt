@@ -10,7 +10,7 @@ use crate::marks::{read_selected, send_mask};
 use list_open::METERS;
 
 // Where a walk stands, beside the marks and the entries.
-#[derive(Drop)]
+#[derive(Clone, Copy)]
 pub struct Walk {
     pub found: usize,
     pub probes: u32,
@@ -18,7 +18,7 @@ pub struct Walk {
 }
 
 // A probe without its row: many is 0, or the E5 counted where they are several.
-#[derive(Drop)]
+#[derive(Clone, Copy)]
 pub struct Probed {
     pub walk: Walk,
     pub many: u32,

@@ -1,4 +1,6 @@
 // The simulated segment by value: a bus with its meters, as an opening builds it and as an image is read.
+#![tactic(auto)]
+
 ghost use Rattle.std.specs.Prelude.{◌≡◌, [], map, take};
 ghost use Rattle.meter.specs.View.{plain_meter};
 ghost use Rattle.segment.specs.Plain.{blank};
@@ -15,7 +17,7 @@ pub const INPUT: usize = 260;
 // As many bytes as can be queued.
 pub const QUEUE: usize = 4096;
 
-#[derive(Drop)]
+#[derive(Clone, Copy)]
 pub struct Segment {
     pub meters: [Meter; METERS],
     pub count: usize,

@@ -1,4 +1,6 @@
 // Opening, receive, clear and baud change, on a segment in its image.
+#![tactic(auto)]
+
 ghost use Rattle.std.specs.Prelude.{◌≡◌};
 ghost use Rattle.list_check.specs.Refusals.{refusal_number_value, refusal_index_value};
 ghost use Rattle.segment.specs.Calls;
@@ -47,7 +49,7 @@ pub fn clear(image: &mut [u8; IMAGE])
 }
 
 // What a baud change answers: accepted, or 10.
-#[derive(Drop)]
+#[derive(Clone, Copy)]
 pub enum Changing {
     Accepted,
     NoRate,

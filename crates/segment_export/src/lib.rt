@@ -1,4 +1,6 @@
 // The segment as a list.
+#![tactic(auto)]
+
 ghost use Rattle.std.specs.Prelude.{◌≡◌, [], ◌∷◌, ◌++◌, ◌+◌, ◌*◌, ◌/◌, ◌%◌, ◌≤◌, ◌<◌, length, drop};
 ghost use Rattle.meter.specs.View.{plain_meter};
 ghost use Rattle.list_open.specs.Opening.{most_meters};
@@ -19,7 +21,7 @@ use segment_places::{head, meters};
 const RECORDS: usize = (REST + 1) * METERS;
 
 // What an export answers: how many bytes it wrote, or a refusal.
-#[derive(Drop)]
+#[derive(Clone, Copy)]
 pub enum Exporting {
     Bytes(u16),
     HighPrimary,
@@ -105,8 +107,8 @@ fn write_list(lent: &mut [u8], records: &[u8])
     ensures { lent.new ≡ (1 ∷ length records.now / 256 ∷ length records.now % 256 ∷ records.now) ++ drop (3 + length records.now) lent.old }
 {
     let head = head_bytes(records.len());
-    bytes::copy(&head, lent);
-    bytes::copy(records, &mut lent[3..]);
+    laws::copy(&head, lent);
+    laws::copy(records, &mut lent[3..]);
 }
 
 // Writes the present meters, in segment order, as a list to be opened at the bus baud.

@@ -5,7 +5,7 @@ use Prim.Native.Nat.{ℕ, ◌+◌, ◌-◌, ◌≤◌}
 use native.Mathlib.Omega.{arith}
 use lib.ListN.{length, take, drop, length-take, length-drop}
 use lib.Seq.{paste, take-paste, length-paste, take-append-le, take-take, drop_at, drop-length, length-take-le}
-use Rattle.laws.proofs.Copy.{drop-take}
+use Rattle.laws.proofs.Copying.{drop-take}
 use Rattle.laws.proofs.Lists.{take_rest}
 use Rattle.segment_image.specs.Image.{block}
 

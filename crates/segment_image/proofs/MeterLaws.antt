@@ -7,7 +7,7 @@ use native.Mathlib.Omega.{arith}
 use lib.ListN.{length, take, drop, set, get_or, length-drop, length-append}
 use lib.Seq.{paste, take-append-le, drop-drop, take-take, take_all, take-suc, take-suc-set, length-paste}
 use Rattle.laws.specs.Words.{each}
-use Rattle.laws.proofs.Copy.{drop-take}
+use Rattle.laws.proofs.Copying.{drop-take}
 use Rattle.laws.proofs.Rows.{Rows, rows_begin, rows_more, rows_map}
 use Rattle.meter.specs.PlainMeter.{PlainMeter}
 use Rattle.meter.specs.View.{plain_meter}

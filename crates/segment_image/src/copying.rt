@@ -29,7 +29,7 @@ pub(crate) fn copy(from: &[u8], start: usize, n: usize, to: &mut [u8], p: usize)
     requires { (start + n ≤ length from.now) × (p + n ≤ length to.old) }
     ensures { to.new ≡ paste to.old p (drop start from.now) n }
 {
-    bytes::copy(&from[start..start + n], &mut to[p..]);
+    laws::copy(&from[start..start + n], &mut to[p..]);
 }
 
 // Every byte becomes 0.

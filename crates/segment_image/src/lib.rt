@@ -1,5 +1,7 @@
 // A segment as an array of bytes and back, so that a caller in another language keeps it between calls.
 // specs/Image.antt says where each part lies.
+#![tactic(auto)]
+
 ghost use Rattle.std.specs.Prelude.{◌≡◌, map, ◌++◌, ◌+◌, ◌*◌, ◌≤◌, ◌<◌, length, take, drop, replicate};
 ghost use Rattle.laws.specs.Words.{each};
 ghost use Rattle.list_open.specs.Opening.{capacity};

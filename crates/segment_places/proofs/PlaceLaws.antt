@@ -6,7 +6,7 @@ use native.Mathlib.Omega.{arith}
 use lib.Ieee.{Float, binary64, of_bits}
 use lib.ListN.{length, take, drop, set, get_or, replicate, length-append, length-drop, length-take, length-set}
 use lib.Seq.{paste, length-paste, drop-append-le, take-append-add, drop-append-add, take_all, take_at, drop_at, drop-drop, length-take-le}
-use Rattle.laws.proofs.Copy.{drop-take}
+use Rattle.laws.proofs.Copying.{drop-take}
 use Rattle.laws.specs.Words.{each}
 use Rattle.laws.proofs.Rows.{length_rows}
 use Rattle.numbers.specs.Values.{little}

@@ -7,7 +7,7 @@ use native.Mathlib.Omega.{arith}
 use lib.ListN.{length, take, drop, replicate, length-drop, length-replicate, replicate-append-replicate}
 use lib.Seq.{paste, length-paste, take-paste, drop-paste, take_all, take_at, drop_at, drop-drop, drop-append-le, take-append-le, take-take, take-length}
 use Rattle.numbers.specs.Values.{little}
-use Rattle.laws.proofs.Copy.{drop-take}
+use Rattle.laws.proofs.Copying.{drop-take}
 use Rattle.numbers.specs.Number.{number}
 use Rattle.numbers.proofs.NumberLaws.{number-little}
 use Rattle.segment.specs.Plain.{with_queue}

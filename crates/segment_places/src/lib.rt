@@ -1,4 +1,6 @@
 // The parts of a segment, read and changed where they lie, in its image (segment_image, specs/Image.antt).
+#![tactic(auto)]
+
 pub mod head; // head.rt: the numbers in front
 pub mod input; // input.rt: what waits
 pub mod meters; // meters.rt: a meter

@@ -11,7 +11,7 @@ pub(crate) fn put(image: &mut [u8], p: usize, bytes: &[u8])
     requires { p + length bytes.now ≤ length image.old }
     ensures { image.new ≡ paste image.old p bytes.now (length bytes.now) }
 {
-    bytes::copy(bytes, &mut image[p..]);
+    laws::copy(bytes, &mut image[p..]);
 }
 
 // n times the byte b over those from p on.

@@ -1,4 +1,6 @@
 // Replies to one telegram, joined one after the other.
+#![tactic(auto)]
+
 ghost use Rattle.std.specs.Prelude.{◌≡◌, ◌≤◌, max, length, take, replicate};
 ghost use Rattle.segment_replies.specs.Replies.{is_e5};
 ghost use Rattle.segment_replies.specs.ProgramJoining.{JoinsAck, JoinsReply, Overlays, reply_most};
@@ -10,7 +12,7 @@ use meter_reply::Reply;
 pub const REPLY: usize = 96;
 
 // How many replies there are so far, whether all are E5, and how long the longest is.
-#[derive(Drop)]
+#[derive(Clone, Copy)]
 pub struct Joining {
     pub count: usize,
     pub acks: bool,

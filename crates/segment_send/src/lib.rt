@@ -1,4 +1,6 @@
 // Send: a piece of bytes and the clock, to a segment in its image.
+#![tactic(auto)]
+
 ghost use Rattle.std.specs.Prelude.{◌≡◌, ◌++◌, ◌≤◌, length};
 ghost use Rattle.frame.specs.Frame.{due, parse};
 ghost use Rattle.segment.specs.Plain.{with_input};
@@ -18,7 +20,7 @@ use time_clock::{Clock, good_clock};
 mod telegrams; // telegrams.rt: telegrams, one after the other
 
 // What send answers: accepted, and how many bytes are due of what waits; 13, 14 and 15 of the places of refusal.
-#[derive(Drop)]
+#[derive(Clone, Copy)]
 pub enum Sending {
     Accepted { due: u16 },
     PieceTooLong,

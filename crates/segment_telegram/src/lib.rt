@@ -1,4 +1,6 @@
 // What one telegram does to a segment, in its image.
+#![tactic(auto)]
+
 ghost use Rattle.std.specs.Prelude.{◌≡◌, List, ℕ, ◌≤◌, eqb};
 ghost use Rattle.frame.specs.Protocol.{addr_broadcast};
 ghost use Rattle.frame.specs.View.{telegram_of};

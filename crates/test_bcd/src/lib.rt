@@ -1,4 +1,6 @@
 // The routines that make BCD values, for the benchmark to call: their bytes as one number, low byte first.
+#![tactic(auto)]
+
 ghost use Rattle.numbers.specs.Number.{number};
 ghost use Rattle.numbers.specs.Values.{bcd};
 ghost use Rattle.std.specs.Prelude.{◌≡◌};

@@ -1,4 +1,6 @@
 // Writes the four built-in lists, one after the other: they are held to the files of examples/.
+#![tactic(auto)]
+
 use libc::STDOUT_FILENO;
 
 fn main() {

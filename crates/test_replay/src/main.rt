@@ -1,6 +1,8 @@
 // Reads a script of calls from standard input, at most 65,536 bytes, makes them on a segment in its image, and
 // writes what each gives. A command is a byte that names it and its arguments, each number with its highest byte first.
 // The run ends at the script's end, at a byte that names no command, and at a command that is cut off.
+#![tactic(auto)]
+
 use libc::STDIN_FILENO;
 use segment::Segment;
 use segment_image::IMAGE;

@@ -1,11 +1,13 @@
 // The clock that a call is given.
+#![tactic(auto)]
+
 ghost use Rattle.std.specs.Prelude.{◌≡◌};
 ghost use Rattle.time_clock.specs.Fields.{clock_at_value, good_clock_value};
 
 use laws::is_within;
 
 // Seconds, and the date and time of day that meters write.
-#[derive(Drop)]
+#[derive(Clone, Copy)]
 pub struct Clock {
     pub now: f64,
     pub year: u32,

@@ -1,4 +1,6 @@
 // How dates and times are written into bytes.
+#![tactic(auto)]
+
 ghost use Rattle.std.specs.Prelude.{◌≡◌};
 ghost use Rattle.time_dates.specs.Dates.{type_g_value, type_f_value};
 

@@ -1,5 +1,7 @@
 // The whole seconds of a time, worked out from the bits of an `f64`, the time that has elapsed, and an
 // `f64` as a number and back.
+#![tactic(auto)]
+
 ghost use Rattle.std.specs.Prelude.{◌≡◌};
 ghost use Rattle.std.specs.Float.{binary64};
 ghost use Rattle.std.specs.Float.Ieee.{to_bits, of_bits};

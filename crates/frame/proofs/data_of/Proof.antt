@@ -1,5 +1,5 @@
 use Rattle.std.proofs.Common.{rules}
-use Rattle.laws.proofs.Copy.{part_min}
+use Rattle.laws.proofs.Copying.{part_min}
 use Rattle.frame.proofs.data_of.Statement.{statement}
 use Rattle.frame.proofs.data_of.Tie as tie
 

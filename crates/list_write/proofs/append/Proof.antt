@@ -5,7 +5,7 @@ use Prim.Native.Nat.{min}
 use native.Mathlib.Omega.{arith}
 use lib.ListN.{length, take, length-take}
 use lib.Seq.{length-take-le}
-use Rattle.laws.proofs.Copy.{take_min}
+use Rattle.laws.proofs.Copying.{take_min}
 use Rattle.list_write.specs.ProgramRecord.{room, none}
 use Rattle.list_write.proofs.PutLaws.{puts_same}
 use Rattle.list_write.proofs.append.Statement.{statement}

@@ -6,7 +6,7 @@ use Rattle.segment_image.specs.Image.{IsImage}
 use lib.ListN.{take}
 use lib.Seq.{length-take-le}
 use borrow.Author.Rules.{rules}
-use Rattle.laws.proofs.Copy.{take_min}
+use Rattle.laws.proofs.Copying.{take_min}
 use Rattle.listing_text.specs.Listing.{list_in}
 use Rattle.listing_text.proofs.ListingLaws.{opens_site}
 use Rattle.listing_text.proofs.open_list.Statement.{statement}

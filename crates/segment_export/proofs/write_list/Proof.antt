@@ -3,7 +3,7 @@ use borrow.Author.Rules.{rules}
 use mathlib.Core.Path.{◌≡◌}
 use native.Mathlib.Omega.{arith}
 use lib.ListN.{length}
-use Rattle.laws.proofs.Copy.{copied_into}
+use Rattle.laws.proofs.Copying.{copied_into}
 use Rattle.segment_export.proofs.ListLaws.{list_written}
 use Rattle.segment_export.proofs.write_list.Statement.{statement}
 use Rattle.segment_export.proofs.write_list.Tie as tie

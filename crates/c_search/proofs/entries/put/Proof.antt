@@ -1,6 +1,6 @@
 -- `c_search::entries::put` meets its contract.
 use borrow.Author.Rules.{rules}
-use Rattle.laws.proofs.Copy.{copied_into}
+use Rattle.laws.proofs.Copying.{copied_into}
 use Rattle.c_search.proofs.entries.put.Statement.{statement}
 use Rattle.c_search.proofs.entries.put.Tie as tie
 

@@ -1,6 +1,6 @@
 use Rattle.std.proofs.Common.{ℕ, ◌+◌, List, ◌++◌, length, take, drop, ap, ◌∙◌, rules}
 use lib.Seq.{take-length}
-use Rattle.laws.proofs.Copy.{copied_into}
+use Rattle.laws.proofs.Copying.{copied_into}
 use Rattle.frame_write.proofs.writing.put_data.Statement.{statement}
 use Rattle.frame_write.proofs.writing.put_data.Tie as tie
 

@@ -1,6 +1,6 @@
 -- `list_check::texts::text` meets its contract.
 use borrow.Author.Rules.{rules}
-use Rattle.laws.proofs.Copy.{part_min}
+use Rattle.laws.proofs.Copying.{part_min}
 use Rattle.list_check.proofs.texts.text.Statement.{statement}
 use Rattle.list_check.proofs.texts.text.Tie as tie
 

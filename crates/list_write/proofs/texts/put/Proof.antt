@@ -1,6 +1,6 @@
 -- `list_write::texts::put` meets its contract.
 use borrow.Author.Rules.{rules}
-use Rattle.laws.proofs.Copy.{copied_into}
+use Rattle.laws.proofs.Copying.{copied_into}
 use Rattle.list_write.proofs.PutLaws.{puts_copied}
 use Rattle.list_write.proofs.texts.put.Statement.{statement}
 use Rattle.list_write.proofs.texts.put.Tie as tie

@@ -3,7 +3,7 @@ use mathlib.Core.Path.{refl}
 use native.Mathlib.Omega.{arith}
 use lib.ListN.{length}
 use borrow.Author.Rules.{rules}
-use Rattle.laws.proofs.Copy.{copied_into}
+use Rattle.laws.proofs.Copying.{copied_into}
 use Rattle.list_open.specs.Opening.{capacity}
 use Rattle.listing_text.proofs.TextLaws.{copied_wrote}
 use Rattle.listing_text.proofs.report.append.Statement.{statement}

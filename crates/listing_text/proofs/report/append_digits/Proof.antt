@@ -3,7 +3,7 @@ use Prim.Native.Nat.{◌+◌, ◌≤◌, ◌-◌}
 use native.Mathlib.Omega.{arith}
 use lib.ListN.{length, length-set, length-map, get_or-map}
 use borrow.Author.Rules.{rules}
-use Rattle.laws.proofs.Copy.{Copied, copied_none, copied_more}
+use Rattle.laws.proofs.Copying.{Copied, copied_none, copied_more}
 use Rattle.list_open.specs.Opening.{capacity}
 use Rattle.listing_text.specs.Text.{room, digit, eight_digits}
 use Rattle.listing_text.proofs.TextLaws.{copied_wrote}

@@ -4,7 +4,7 @@ use Prim.Native.Nat.{ℕ, ◌-◌, ◌≤◌}
 use native.Mathlib.Omega.{arith}
 use lib.ListN.{length, length-set, replicate, length-replicate, get_or-replicate}
 use lib.Seq.{paste}
-use Rattle.laws.proofs.Copy.{Copied, copied_none, copied_more}
+use Rattle.laws.proofs.Copying.{Copied, copied_none, copied_more}
 use Rattle.segment_image.proofs.Filled.{paste-whole}
 use Rattle.segment_image.proofs.copying.blank.Statement.{statement}
 use Rattle.segment_image.proofs.copying.blank.Tie as tie

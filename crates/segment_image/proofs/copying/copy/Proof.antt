@@ -4,7 +4,7 @@ use Prim.Native.Nat.{ℕ, ◌+◌, ◌-◌}
 use native.Mathlib.Omega.{arith}
 use lib.ListN.{take, drop, length-drop}
 use borrow.Author.Rules.{rules}
-use Rattle.laws.proofs.Copy.{copied_part}
+use Rattle.laws.proofs.Copying.{copied_part}
 use Rattle.segment_image.proofs.copying.copy.Statement.{statement}
 use Rattle.segment_image.proofs.copying.copy.Tie as tie
 

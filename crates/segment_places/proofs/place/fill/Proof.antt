@@ -3,7 +3,7 @@ use Prim.Native.Nat.{ℕ, ◌+◌, ◌≤◌, ◌-◌}
 use native.Mathlib.Omega.{arith}
 use lib.ListN.{length, replicate, length-set, length-replicate, get_or-replicate}
 use lib.Seq.{paste}
-use Rattle.laws.proofs.Copy.{Copied, copied_none, copied_more}
+use Rattle.laws.proofs.Copying.{Copied, copied_none, copied_more}
 use Rattle.segment_places.proofs.place.fill.Statement.{statement}
 use Rattle.segment_places.proofs.place.fill.Tie as tie
 

@@ -1,5 +1,5 @@
 use borrow.Author.Rules.{rules}
-use Rattle.laws.proofs.Copy.{copied_into}
+use Rattle.laws.proofs.Copying.{copied_into}
 use Rattle.segment_places.proofs.place.put.Statement.{statement}
 use Rattle.segment_places.proofs.place.put.Tie as tie
 

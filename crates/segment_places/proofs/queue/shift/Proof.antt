@@ -3,7 +3,7 @@ use Prim.Native.Nat.{◌+◌, ◌≤◌, ◌<◌, ◌-◌}
 use native.Mathlib.Omega.{arith}
 use lib.ListN.{length, drop, length-set, length-drop}
 use lib.Seq.{paste, get_or-drop}
-use Rattle.laws.proofs.Copy.{Copied, copied_none, copied_more, copied_past}
+use Rattle.laws.proofs.Copying.{Copied, copied_none, copied_more, copied_past}
 use Rattle.segment_places.proofs.queue.shift.Statement.{statement}
 use Rattle.segment_places.proofs.queue.shift.Tie as tie
 

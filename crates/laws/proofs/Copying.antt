@@ -8,7 +8,7 @@ use native.Mathlib.Nat.{zero-add, min-zero, zero-min, suc-min-suc}
 use native.Mathlib.Numerals.{add-one}
 use native.Mathlib.Omega.{arith}
 use lib.ListN.{length, take, drop, set, get_or, length-drop, take-append-drop}
-use lib.Seq.{paste, paste-zero, paste-suc, take-paste, drop-paste, get_or-drop, take-add, drop_at, drop-drop, drop-append-le, take-take, length-take-le}
+use lib.Seq.{paste, paste-zero, paste-suc, take-paste, drop-paste, get_or-drop, take-add, drop_at, drop-drop, drop-append-le, take-take, length-take-le, take_all, take-length}
 
 pub record Copied {A : Type 0} (d : List A) (at : ℕ) (s : List A) (j : ℕ) (l : List A) : Type 0 where
   pub is : l ≡ paste d at s j
@@ -63,8 +63,8 @@ module _ {A : Type 0} where
       let e : y ≡ min len (length (drop start s)) = q ∙ ap (min len) (sym (length-drop x s) ∙ ap length d) in
       ap (λ (k : ℕ). take k (drop x s)) w ∙ ap (take y) d ∙ ap (λ (k : ℕ). take k (drop start s)) e ∙ take_min len (drop start s)
 
-  -- `bytes::copy` of s into what lies from p on, and that back in its place
-  pub copied_into : (d s l : List A) (p : ℕ) → p + length s ≤ length d → l ≡ take (length s) s ++ drop (length s) (take (length d - p) (drop p d)) → take p d ++ (l ++ drop (length d - p) (drop p d)) ≡ paste d p s (length s)
+  -- `laws::copy` of s into what lies from p on, and that back in its place
+  pub copied_into : (d s l : List A) (p : ℕ) → p + length s ≤ length d → l ≡ take (length (take (length d - p) (drop p d))) s ++ drop (length s) (take (length d - p) (drop p d)) → take p d ++ (l ++ drop (length d - p) (drop p d)) ≡ paste d p s (length s)
   copied_into d s l p h e =
       let n = length s in
       let k = length d - p in
@@ -73,12 +73,13 @@ module _ {A : Type 0} where
       let m : length part ≡ k = length-take-le k (drop p d) (rw length-drop (omega arith)) in
       let q : drop n part ++ rest ≡ drop (p + n) d =
       sym (drop-append-le n part rest (omega arith)) ∙ ap (drop n) (take-append-drop k (drop p d)) ∙ drop-drop n p d in
-      ap (λ (r : List A). take p d ++ (r ++ rest)) e
+      let w : take (length part) s ≡ take n s = take_all (length part) s (omega arith) ∙ sym (take-length s) in
+      ap (λ (r : List A). take p d ++ (r ++ rest)) (e ∙ ap (λ (r : List A). r ++ drop n part) w)
       ∙ ap (λ (r : List A). take p d ++ r) (append_assoc (take n s) (drop n part) rest ∙ ap (λ (r : List A). take n s ++ r) q)
       ∙ sym (append_assoc (take p d) (take n s) (drop (p + n) d))
 
   -- the same of s, the first n of x
-  pub copied_part : (d x s l : List A) (p n : ℕ) → s ≡ take n x → n ≤ length x → p + n ≤ length d → l ≡ take (length s) s ++ drop (length s) (take (length d - p) (drop p d)) → take p d ++ (l ++ drop (length d - p) (drop p d)) ≡ paste d p x n
+  pub copied_part : (d x s l : List A) (p n : ℕ) → s ≡ take n x → n ≤ length x → p + n ≤ length d → l ≡ take (length (take (length d - p) (drop p d))) s ++ drop (length s) (take (length d - p) (drop p d)) → take p d ++ (l ++ drop (length d - p) (drop p d)) ≡ paste d p x n
   copied_part d x s l p n f h fits e =
       let m : length s ≡ n = ap length f ∙ length-take-le n x h in
       copied_into d s l p (omega arith) e
