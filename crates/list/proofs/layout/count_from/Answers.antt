@@ -12,13 +12,13 @@ pub overflow_add-count : goal.overflow_add-count
 overflow_add-count c = omega arith
 
 pub loop-next-smaller : goal.loop-next-smaller
-loop-next-smaller c = let o = step_onward c.args.list.now c.loop-next.at c.next-1.given.0.0 c.next-1.given.0.1.0 (sym c.next-1.given.1 ∙ c.record_at.ensures) in omega (arith, o.before, o.within)
+loop-next-smaller c = let o = step_onward c.args.list.now c.loop-next.at _ c.in-Record.next (sym c.in-Record.is ∙ c.record_at.ensures) in omega (arith, o.before, o.within)
 
 pub loop-next-preserved : goal.loop-next-preserved
-loop-next-preserved c = counted_more c.loop-next.invariant c.next-1.given.0.0 c.next-1.given.0.1.0 (sym c.next-1.given.1 ∙ c.record_at.ensures)
+loop-next-preserved c = counted_more c.loop-next.invariant _ c.in-Record.next (sym c.in-Record.is ∙ c.record_at.ensures)
 
 pub returns-in-Bad : goal.returns-in-Bad
-returns-in-Bad c = counted_bad c.loop-next.invariant (sym c.enum_told-1.given.1 ∙ c.record_at.ensures)
+returns-in-Bad c = counted_bad c.loop-next.invariant (sym c.in-Bad.is ∙ c.record_at.ensures)
 
 pub returns-in-End : goal.returns-in-End
-returns-in-End c = counted_end c.loop-next.invariant (sym c.enum_told-in-End-1.given.1 ∙ c.record_at.ensures)
+returns-in-End c = counted_end c.loop-next.invariant (sym c.in-End.is ∙ c.record_at.ensures)

@@ -14,4 +14,4 @@ pub returns-then-n-at-2 : goal.returns-then-n-at-2
 returns-then-n-at-2 c = step_over _ _ c.wide-len.result (search rules) (search rules) (search rules) (search rules)
 
 pub returns : goal.returns
-returns c = c.record_to_lem.ensures ∙ step_record _ _ c.wide-len.result (search rules) (search rules) (search rules) (search rules)
+returns c = c.record_to.ensures ∙ step_record _ _ c.wide-len.result (search rules) (search rules) (search rules) (search rules)
