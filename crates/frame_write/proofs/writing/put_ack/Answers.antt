@@ -1,4 +1,4 @@
-use Rattle.std.proofs.Common.{◌∷◌, arith}
+use Rattle.std.proofs.Common.{[], ◌∷◌, arith}
 use lib.Seq.{sets-eq}
 use Rattle.frame.specs.Frame.{encode}
 use Rattle.frame_write.proofs.writing.put_ack.Goals as goal

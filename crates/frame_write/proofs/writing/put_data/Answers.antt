@@ -7,5 +7,5 @@ pub returns : goal.returns
 returns c =
     let a = c.args in
     let d = a.«data».now in
-    copied_into a.lent.now d _ a.from c.requires c.copy.ensures.1
+    copied_into a.lent.now d _ a.from c.requires c.copy.ensures.bytes
     ∙ ap (λ (r : List ℕ). take a.from a.lent.now ++ r ++ drop (a.from + length d) a.lent.now) (take-length d)

@@ -1,4 +1,4 @@
-use Rattle.std.proofs.Common.{◌∷◌, arith, length-set}
+use Rattle.std.proofs.Common.{[], ◌∷◌, arith, length-set}
 use lib.Seq.{sets-eq}
 use Rattle.frame_write.proofs.writing.put_head.Goals as goal
 

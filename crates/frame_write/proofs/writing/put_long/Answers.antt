@@ -6,4 +6,4 @@ pub returns : goal.returns
 returns c =
     let a = c.args in
     long_put a.control a.address a.ci a.«data».now a.lent.now _ _ _
-    c.put_head.ensures c.put_data.ensures (c.put_end.ensures ∙ rw c.long_sum_lem.ensures)
+    c.put_head.ensures c.put_data.ensures (c.put_end.ensures ∙ rw c.long_sum.ensures)

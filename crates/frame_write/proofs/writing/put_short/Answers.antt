@@ -1,4 +1,4 @@
-use Rattle.std.proofs.Common.{◌∷◌, sym, ◌∙◌, arith, length-set}
+use Rattle.std.proofs.Common.{[], ◌∷◌, sym, ◌∙◌, arith, length-set}
 use lib.Seq.{sets-eq}
 use Rattle.frame.specs.Frame.{encode}
 use Rattle.frame.proofs.Cases.{sum_two}
