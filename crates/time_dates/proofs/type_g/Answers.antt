@@ -1,6 +1,6 @@
 -- `time_dates::type_g` meets its contract.
 use mathlib.Core.Path.{◌≡◌, ap₂}
-use mathlib.Core.List.{◌∷◌}
+use mathlib.Core.List.{[], ◌∷◌}
 use Prim.Native.Nat.{ℕ, ◌+◌, ◌*◌, ◌/◌, ◌%◌}
 use native.Mathlib.Omega.{arith}
 use Rattle.time_dates.specs.Dates.{type_g_value}
