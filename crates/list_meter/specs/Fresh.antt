@@ -1,5 +1,5 @@
 -- The meter of a record, as an opening begins with it.
-use Rattle.std.specs.Prelude.{Bool, false, ◌&&◌, not, List, ℕ, ◌*◌, ◌%◌, eqb}
+use Rattle.std.specs.Prelude.{Bool, false, ◌&&◌, List, ℕ, ◌*◌, ◌%◌, eqb}
 use Rattle.laws.specs.Words.{if◌then◌else◌}
 use Rattle.meter_identity.specs.Identity.{manufacturer_code_value, decimal}
 use Rattle.meter.specs.PlainMeter.{PlainMeter}
