@@ -2,12 +2,8 @@
 use mathlib.Core.Path.{refl}
 use Rattle.list.specs.Written.{write_texts, write_rest, write_records_value, write_list_value}
 use Rattle.list_builtin.specs.Builtins.{id_text, mfh30}
-use Rattle.list_builtin.proofs.mfh30.Statement.{statement}
-use Rattle.list_builtin.proofs.mfh30.Tie as tie
+use Rattle.list_builtin.proofs.mfh30.Goals as goal
 
-returns : tie.Need-returns
+pub returns : goal.returns
 unfolding mfh30 id_text write_list_value write_records_value write_rest write_texts
 returns c = refl
-
-pub mfh30-spec : {M : Type 1} → statement M
-mfh30-spec = tie.close (tie.spec returns)
