@@ -1,4 +1,5 @@
-// The entry points of the static library. The segment is an image that the caller keeps between the calls.
+// The entry points of the static library, which the crate jezynar_c exports. The segment is an image that the caller keeps between the
+// calls.
 #![tactic(auto)]
 
 ghost use Rattle.std.specs.Prelude.{◌≡◌, ◌+◌, ◌*◌, ◌/◌, ◌%◌, ◌<◌};
@@ -28,16 +29,14 @@ use time_clock::clock_at;
 const LEN: usize = IMAGE;
 
 // How many bytes an image has.
-#[unsafe(no_mangle)]
-pub extern "C" fn jezynar_segment_image_len() -> usize
+pub fn jezynar_segment_image_len() -> usize
     ensures { result ≡ image_len }
 {
     LEN
 }
 
 // No meters, 2400 Bd, origin 0.
-#[unsafe(no_mangle)]
-pub extern "C" fn jezynar_segment_new(image: &mut [u8; IMAGE])
+pub fn jezynar_segment_new(image: &mut [u8; IMAGE])
     ensures { IsImage blank image.new }
 {
     let fresh = Segment::new();
@@ -45,24 +44,21 @@ pub extern "C" fn jezynar_segment_new(image: &mut [u8; IMAGE])
 }
 
 // The one image of the segment that the bytes mean, in their place.
-#[unsafe(no_mangle)]
-pub extern "C" fn jezynar_segment_tidy(image: &mut [u8; IMAGE])
+pub fn jezynar_segment_tidy(image: &mut [u8; IMAGE])
     ensures { IsImage (decode_image image.old) image.new }
 {
     segment_image::tidy(image)
 }
 
 // Empties the queue alone.
-#[unsafe(no_mangle)]
-pub extern "C" fn jezynar_segment_clear(image: &mut [u8; IMAGE])
+pub fn jezynar_segment_clear(image: &mut [u8; IMAGE])
     ensures { LeftImage (Calls.clear (decode_image image.old)) image.old image.new }
 {
     segment_calls::clear(image)
 }
 
 // Sets the bus baud and empties the input. 10: no rate.
-#[unsafe(no_mangle)]
-pub extern "C" fn jezynar_segment_set_baud(image: &mut [u8; IMAGE], baud: u32) -> u32
+pub fn jezynar_segment_set_baud(image: &mut [u8; IMAGE], baud: u32) -> u32
     ensures { DoneImage (Calls.change_baud baud (decode_image image.old)) result image.old image.new }
 {
     let answer = segment_calls::set_baud(image, baud);
@@ -80,8 +76,7 @@ fn packed(refusal: Refusal) -> u32
 }
 
 // Opens the segment of a list. Refused with 1 to 10; 4 to 9 name the first record that fails.
-#[unsafe(no_mangle)]
-pub extern "C" fn jezynar_segment_open(
+pub fn jezynar_segment_open(
     image: &mut [u8; IMAGE],
     list: &[u8],
     baud: u32,
@@ -105,8 +100,7 @@ fn packed_sent(answer: Sending) -> u32
 
 // Sends a piece at a clock. 13: piece over 1,024; 14: a clock field out of range; 15: queue would pass 4,096.
 // Accepted, it says how many bytes are due of what waits.
-#[unsafe(no_mangle)]
-pub extern "C" fn jezynar_segment_send(
+pub fn jezynar_segment_send(
     image: &mut [u8; IMAGE],
     piece: &[u8],
     secs: f64,
@@ -124,8 +118,7 @@ pub extern "C" fn jezynar_segment_send(
 }
 
 // Hands out the least of 32, the lent length and the queued bytes.
-#[unsafe(no_mangle)]
-pub extern "C" fn jezynar_segment_receive(image: &mut [u8; IMAGE], lent: &mut [u8]) -> usize
+pub fn jezynar_segment_receive(image: &mut [u8; IMAGE], lent: &mut [u8]) -> usize
     ensures { ReceivedImage (Calls.receive lent.old (decode_image image.old)) result lent.new image.old image.new }
 {
     segment_calls::receive(image, lent)
@@ -141,8 +134,7 @@ fn packed_exported(answer: Exporting) -> u32
 }
 
 // Writes the present meters as a list, to be opened at the bus baud. 18: a primary above 250; 12: lent bytes too few.
-#[unsafe(no_mangle)]
-pub extern "C" fn jezynar_segment_export(image: &[u8; IMAGE], lent: &mut [u8]) -> u32
+pub fn jezynar_segment_export(image: &[u8; IMAGE], lent: &mut [u8]) -> u32
     ensures { exported_by (result / 65536) (result % 65536) lent.new ≡ export_into_value lent.old (decode_image image.now) }
 {
     let answer = segment_export::export(image, lent);
@@ -153,8 +145,7 @@ pub extern "C" fn jezynar_segment_export(image: &[u8; IMAGE], lent: &mut [u8]) -
 
 // Searches with an allowance of probes; 16 lent bytes for each entry.
 // 14: a clock field out of range; 16: input or queue not empty; 17: fewer entries lent than meters opened.
-#[unsafe(no_mangle)]
-pub extern "C" fn jezynar_segment_search(
+pub fn jezynar_segment_search(
     image: &mut [u8; IMAGE],
     secs: f64,
     year: u32,
@@ -176,16 +167,14 @@ pub extern "C" fn jezynar_segment_search(
 
 // The telegram in front of some bytes: 0 complete, 1 + 256 * due incomplete, 2 to 6 invalid (checksum, stop, header,
 // length, start).
-#[unsafe(no_mangle)]
-pub extern "C" fn jezynar_frame_parse(bytes: &[u8], out: &mut [u8; 16]) -> u32
+pub fn jezynar_frame_parse(bytes: &[u8], out: &mut [u8; 16]) -> u32
     ensures { Parses (Rattle.frame.specs.Frame.parse bytes.now) result out.old out.new }
 {
     c_frame::parse(bytes, out)
 }
 
 // Writes a telegram. 11: data over 252; 12: lent bytes too few.
-#[unsafe(no_mangle)]
-pub extern "C" fn jezynar_frame_encode(
+pub fn jezynar_frame_encode(
     kind: u8,
     control: u8,
     address: u8,
