@@ -6,7 +6,7 @@ pub mod GivenLaws
 pub mod Opened
 pub mod OpeningLaws
 pub mod Refusals
-pub mod StoreItem
 pub mod TakeInLaws
 pub mod Theorems
+pub mod TurnLaws
 pub mod WriteLaws
