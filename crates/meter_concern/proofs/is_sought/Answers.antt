@@ -8,33 +8,14 @@ use lib.Bits.{bit_and}
 use Rattle.numbers.specs.Number.{number}
 use Rattle.meter_concern.specs.ProgramSeeking.{first_bytes, sought_by_value}
 use borrow.Author.Rules.{rules}
-use Rattle.meter_concern.proofs.is_sought.Statement.{statement}
-use Rattle.meter_concern.proofs.is_sought.Tie as tie
+use Rattle.meter_concern.proofs.is_sought.Goals as goal
 
-four-requires : tie.Need-four-requires
-four-requires c κs = search rules
-
-four-requires-2 : tie.Need-four-requires-2
-four-requires-2 c κs = search rules
-
-cast-word : tie.Need-overflow-cast-word
-cast-word c = search rules
-
-cast-word-2 : tie.Need-overflow-cast-word-2
-cast-word-2 c = search rules
-
-mul-word : tie.Need-overflow-mul-word
-mul-word c = search rules
-
-add-word : tie.Need-overflow-add-word
-add-word c = search rules
-
-returns : tie.Need-returns
+pub returns : goal.returns
 unfolding sought_by_value number
 returns c =
-    let a = c.before.before.before.before.before.args in
-    let low = c.before.before.before.before.four in
-    let high = c.before.before.before.four2 in
+    let a = c.args in
+    let low = c.four-low in
+    let high = c.four-high in
     let id = number 4 0 (a.id0 ∷ a.id1 ∷ a.id2 ∷ a.id3 ∷ []) in
     let more = a.x + 256 * (a.y + 256 * a.z) in
     let b : (a.primary < 256) × (a.id0 < 256) × (a.id1 < 256) × (a.id2 < 256) × (a.id3 < 256) = (search rules, search rules, search rules, search rules, search rules) in
@@ -43,8 +24,3 @@ returns c =
       ap (λ n. (a.selected && a.q.selected) || eqb (bit_and n a.q.mask) a.q.want) eight,
       λ test k. ap (λ n. (a.selected && a.q.selected) || eqb (bit_and n a.q.mask) a.q.want) w ∙ k.are a.primary a.selected id more b.0 (omega arith),
     )
-
-pub is-sought-spec : {M : Type 1} → statement M
-is-sought-spec =
-    tie.close
-    (tie.spec four-requires four-requires-2 cast-word cast-word-2 mul-word add-word returns)
