@@ -1,9 +1,8 @@
 -- The parts of a record, one behind the other, are its rest.
-use mathlib.Core.Path.{◌≡◌, refl, sym, ap, ap₂, ◌∙◌}
-use mathlib.Core.List.{List, [], ◌∷◌, ◌++◌, append-nil, append_assoc}
-use Prim.Native.Nat.{ℕ, ◌+◌, ◌≤◌}
-use native.Mathlib.Omega.{arith}
-use lib.ListN.{length, take}
+use mathlib.Core.Path.{◌≡◌, sym, ap, ap₂, ◌∙◌}
+use mathlib.Core.List.{List, ◌∷◌, ◌++◌, append-nil, append_assoc}
+use Prim.Native.Nat.{ℕ}
+use lib.ListN.{take}
 use Rattle.list.specs.Layout.{Listed}
 use Rattle.list.specs.Written.{write_texts, write_rest}
 use Rattle.list_write.specs.ProgramRecord.{counted, Puts, front_of_value}

@@ -1,0 +1,27 @@
+-- `list_write::front::front_of` meets its contract.
+use mathlib.Core.Path.{refl, ap, ◌∙◌}
+use Prim.Native.Nat.{◌/◌, ◌%◌}
+use Rattle.meter_identity.specs.Identity.{digits_of_value}
+use Rattle.list_write.specs.Record.{record_for}
+use Rattle.list_write.specs.ProgramRecord.{front_of_value}
+use Rattle.list_write.proofs.RestLaws.{and_then}
+use Rattle.list_write.proofs.front.front_of.Goals as goal
+
+pub returns : goal.returns
+unfolding front_of_value record_for digits_of_value
+returns c =
+    let own = c.own_baud-baud.ensures in
+    and_then refl (and_then refl
+    (and_then (c.low.ensures ∙ ap (λ b. b / 0x1000000 % 256) own)
+    (and_then (c.low-2.ensures ∙ ap (λ b. b / 0x10000 % 256) own)
+    (and_then (c.low-3.ensures ∙ ap (λ b. b / 0x100 % 256) own)
+    (and_then (c.low-4.ensures ∙ ap (λ b. b % 256) own)
+    (and_then refl
+    (and_then c.digit.ensures
+    (and_then c.digit-2.ensures
+    (and_then c.digit-3.ensures
+    (and_then c.digit-4.ensures
+    (and_then c.digit-5.ensures
+    (and_then c.digit-6.ensures
+    (and_then c.digit-7.ensures
+    (and_then c.digit-8.ensures refl))))))))))))))
