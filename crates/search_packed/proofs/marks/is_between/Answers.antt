@@ -1,8 +1,7 @@
 use Rattle.std.proofs.Common.{◌≡◌, ℕ, ◌+◌, ◌-◌, ◌%◌, ◌^◌, ◌<◌, ◌≤◌, Bool, true, false, ◌&&◌, leb, sym, refl, ap, ◌∙◌, ap₂, arith, rules, le-leb, leb-false, leb-true}
 use borrow.Author.Tests.{lt-leb}
 use Rattle.laws.specs.Words.{within}
-use Rattle.search_packed.proofs.marks.is_between.Statement.{statement}
-use Rattle.search_packed.proofs.marks.is_between.Tie as tie
+use Rattle.search_packed.proofs.marks.is_between.Goals as goal
 
 -- x lies past the lower end by r, which wraps
 between : (low high x r : ℕ) → low ≤ high → high < 2 ^ 32 → x < 2 ^ 32 → r < 2 ^ 32 → (r + low) % 2 ^ 32 ≡ x → leb r (high - low) ≡ within low high x
@@ -13,17 +12,7 @@ between low high x r h k l m e = go (leb low x) refl (leb x high) refl
     go true p false q = lt-leb r (high - low) (omega (arith, leb-true low x p, leb-false x high q)) ∙ sym (ap₂ (λ u v. u && v) p q)
     go false p d q = lt-leb r (high - low) (omega (arith, leb-false low x p)) ∙ sym (ap (λ u. u && leb x high) p)
 
-wrapping-sub-u32-requires : tie.Need-wrapping-sub-u32-requires
-wrapping-sub-u32-requires c κs = search rules
-
-sub-result : tie.Need-overflow-sub-result
-sub-result c = search rules
-
-returns : tie.Need-returns
+pub returns : goal.returns
 returns c =
-    let s = c.before in
-    let a = s.args in
-    between a.low a.high a.x c.wrapping-sub-u32.result s.requires (search rules) (search rules) (search rules) c.wrapping-sub-u32.ensures
-
-pub is-between-spec : {M : Type 1} → statement M
-is-between-spec = tie.close (tie.spec wrapping-sub-u32-requires sub-result returns)
+    let a = c.args in
+    between a.low a.high a.x c.wrapping_sub_u32.result c.requires (search rules) (search rules) (search rules) c.wrapping_sub_u32.ensures.value
