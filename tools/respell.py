@@ -96,7 +96,7 @@ def respelled(name, known):
 def table():
     declared, goals, library, words, defined = names()
     declared = {n for n in declared if re.match(r"[^\W\d]", n) or n[0] in "≤<∀Σμ"}
-    turned = {n for n in declared if "-" in n.strip("-") or re.search(r"^[a-z].*[a-z0-9][A-Z]", n) and not n.isupper()}
+    turned = {n for n in declared if "-" in n.strip("-") or re.search(r"^[a-z]([A-Z]|.*[a-z0-9][A-Z])", n) and not n.isupper()}
     turned -= library | goals
     # What a dash may join: definitions of specs/ and what is taken from libraries.
     plain = {n for n in defined | library if "-" not in n and len(n) > 1}

@@ -1,7 +1,7 @@
 -- A telegram of 01's table, and the C fields masked.
 use Rattle.std.proofs.Common.{◌≡◌, [], ◌∷◌, refl}
 use lib.Bits.{bit_and}
-use Rattle.frame.specs.Protocol.{c_snd_ud, c_req_ud2, c_rsp_ud, cMask, c_snd_ud_masked, c_req_ud2_masked}
+use Rattle.frame.specs.Protocol.{c_snd_ud, c_req_ud2, c_rsp_ud, c_mask, c_snd_ud_masked, c_req_ud2_masked}
 use Rattle.frame.specs.Frame.{long, encode, sum, incomplete, parse_short_value, parse_long_value, parse}
 
 -- (e) the busy answer of the meter at 11
@@ -10,13 +10,13 @@ unfolding encode sum
 busy = refl
 
 -- "C masked with CF is 43", 4B, 08
-pub masked-snd_ud : bit_and c_snd_ud cMask ≡ c_snd_ud_masked
+pub masked-snd_ud : bit_and c_snd_ud c_mask ≡ c_snd_ud_masked
 masked-snd_ud = refl
 
-pub masked-req_ud2 : bit_and c_req_ud2 cMask ≡ c_req_ud2_masked
+pub masked-req_ud2 : bit_and c_req_ud2 c_mask ≡ c_req_ud2_masked
 masked-req_ud2 = refl
 
-pub masked_rsp_ud : bit_and c_rsp_ud cMask ≡ c_rsp_ud
+pub masked_rsp_ud : bit_and c_rsp_ud c_mask ≡ c_rsp_ud
 masked_rsp_ud = refl
 
 -- Req 01: "4 for a lone 10, 3 for a lone 68, the rest of L + 6 once a sound header is there, 1 for nothing"

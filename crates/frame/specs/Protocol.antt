@@ -42,8 +42,8 @@ abbrev pub fcb_bit : ℕ
 fcb_bit = 0x20
 
 -- "C masked with CF": all bits but 20 and 10
-abbrev pub cMask : ℕ
-cMask = 0xCF
+abbrev pub c_mask : ℕ
+c_mask = 0xCF
 
 -- SND_UD and REQ_UD2, masked; RSP_UD stays 08
 abbrev pub c_snd_ud_masked : ℕ

@@ -1,4 +1,3 @@
-pub mod CodePieces
 pub mod Copying
 pub mod Lists
 pub mod Rows

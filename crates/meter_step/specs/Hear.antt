@@ -3,7 +3,7 @@
 use Rattle.std.specs.Prelude.{Bool, true, false, ◌&&◌, ◌||◌, not, List, [], ◌∷◌, ℕ, ◌-◌, eqb, leb, Float, length, get_or}
 use Rattle.std.specs.Int.Bits.{bit_and}
 use Rattle.laws.specs.Words.{if◌then◌else◌, at}
-use Rattle.frame.specs.Protocol.{ack_byte, c_snd_nke, fcb_bit, cMask, c_snd_ud_masked, c_req_ud2_masked, addr_selected, addr_broadcast_reply, addr_broadcast, ci_app_reset, ci_data_send, ci_select, ci_first_baud, ci_last_baud}
+use Rattle.frame.specs.Protocol.{ack_byte, c_snd_nke, fcb_bit, c_mask, c_snd_ud_masked, c_req_ud2_masked, addr_selected, addr_broadcast_reply, addr_broadcast, ci_app_reset, ci_data_send, ci_select, ci_first_baud, ci_last_baud}
 use Rattle.frame.specs.Frame.{Telegram, ack, short, long}
 use Rattle.meter.specs.PlainMeter.{PlainMeter}
 use Rattle.time_clock.specs.declared.Clock.{Clock}
@@ -39,14 +39,14 @@ is_nke_value c = eqb c c_snd_nke
 
 -- "REQ_UD2: short, C masked with CF is 4B"; its FCB is the bit 20
 abbrev pub is_req_ud2_value : ℕ → Bool
-is_req_ud2_value c = eqb (bit_and c cMask) c_req_ud2_masked
+is_req_ud2_value c = eqb (bit_and c c_mask) c_req_ud2_masked
 
 abbrev pub fcb_of_value : ℕ → Bool
 fcb_of_value c = not (eqb (bit_and c fcb_bit) 0)
 
 -- "SND_UD (C masked with CF is 43)"
 abbrev pub is_snd_ud_value : ℕ → Bool
-is_snd_ud_value c = eqb (bit_and c cMask) c_snd_ud_masked
+is_snd_ud_value c = eqb (bit_and c c_mask) c_snd_ud_masked
 
 -- "Select (C masked with CF is 43, CI 52, address FD)": a SND_UD with this CI and address
 abbrev pub is_select_value : ℕ → ℕ → Bool

@@ -21,3 +21,4 @@ mod SearchCalls
 mod LentPart
 pub mod ListedLaws
 mod ListedCalls
+pub mod CodePieces

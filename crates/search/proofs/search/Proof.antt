@@ -49,7 +49,7 @@ use denote.Triple.Table.{entered, cited}
 use denote.Triple.Clauses.{ensured}
 use denote.Triple.Walked.{says, Stays, gave_ref, stay_none, stay_slice, walk_of, Goes-gave_ref, Goes-none, Goes-slice, Walks, ends_at, walked, walk_Meets}
 use denote.Exit.{yes}
-use Rattle.laws.proofs.CodePieces.{after}
+use Rattle.search.proofs.CodePieces.{after}
 use Rattle.time_clock.specs.declared.Clock.{Clock}
 use Rattle.time_clock.specs.contracts.Clock as K
 use Rattle.time_clock.proofs.Clock.TheLaws as K'
