@@ -1,0 +1,16 @@
+-- `segment_image::meters::last` meets its contract.
+use mathlib.Core.Path.{sym, ap}
+use Prim.Native.Nat.{◌≤◌}
+use native.Mathlib.Omega.{arith}
+use lib.ListN.{get_or-eq_default}
+use Rattle.segment_image.specs.MeterBytes.{last_by}
+use Rattle.segment_image.proofs.meters.last.Goals as goal
+
+pub returns-in-0 : goal.returns-in-0
+returns-in-0 c = sym (ap last_by c.in-0.is)
+
+pub returns-in-1 : goal.returns-in-1
+returns-in-1 c = sym (ap last_by c.in-1.is)
+
+pub returns-in_default : goal.returns-in_default
+returns-in_default c = let h : 2 ≤ c.args.b = omega arith in rw get_or-eq_default

@@ -1,0 +1,58 @@
+-- `segment_image::write_parts` meets its contract.
+use mathlib.Core.Path.{◌≡◌, ap, ◌∙◌}
+use mathlib.Core.List.{List, ◌++◌, map}
+use Prim.Native.Nat.{ℕ, ◌-◌, ◌*◌}
+use native.Mathlib.Omega.{arith}
+use lib.ListN.{length, take, drop, replicate}
+use Rattle.laws.specs.Words.{each}
+use Rattle.laws.proofs.Lists.{take_rest}
+use Rattle.laws.proofs.Sweep.{length_mapped}
+use Rattle.meter.specs.View.{plain_meter}
+use Rattle.segment_image.specs.MeterBytes.{encode_meter}
+use Rattle.list_open.specs.Opening.{capacity}
+use Rattle.segment_image.proofs.Blocks.{nothing_left, length_rest}
+use Rattle.segment_image.proofs.Whole.{Copies, copies}
+use Rattle.segment_image.proofs.Exact.{exact}
+use borrow.Author.Rules.{rules}
+use Rattle.segment_image.proofs.write_parts.Goals as goal
+
+pub write_meters-requires : goal.write_meters-requires
+unfolding capacity
+write_meters-requires c =
+    (length_rest 4374 (25 * capacity) c.copy-3.new.to (omega (arith, c.requires.0, c.copy.auto.to, c.copy-2.auto.to, c.copy-3.auto.to)), omega (arith, c.least-count.ensures))
+
+pub returns : goal.returns
+unfolding capacity
+returns c =
+    let long_input : length c.args.s.input ≡ 260 = search rules in
+    let long_queue : length c.args.s.queue ≡ 4096 = search rules in
+    let long_meters : length c.args.s.meters ≡ capacity = search (rules, length_mapped) in
+    let long_head : length c.head_bytes-head.result ≡ 18 = search rules in
+    let l₃ = c.copy-3.new.to in
+    let long = c.requires.0 in
+    let wrote = c.write_meters.ensures in
+    let n = c.least-count.result in
+    let made : Copies c.args.s _ _ _ _ c.args.bs.now _ _ l₃ _ =
+    record {
+      count_is = c.least-count.ensures;
+      waiting_is = c.least-waiting.ensures;
+      queued_is = c.least-queued.ensures;
+      input_long = long_input;
+      queue_long = long_queue;
+      meters_long = long_meters;
+      blank = c.requires.1 ∙ ap (λ (n : ℕ). replicate n 0) long;
+      head_long = long_head;
+      head_bytes = c.head_bytes-head.ensures.0;
+      head-is = c.head_bytes-head.ensures.1;
+      first = c.copy.ensures;
+      second = c.copy-2.ensures;
+      third = c.copy-3.ensures;
+      ms_long = c.write_meters.auto.bs ∙ length_rest 4374 (25 * capacity) l₃ (omega (arith, long, c.copy.auto.to, c.copy-2.auto.to, c.copy-3.auto.to));
+      rows_are = wrote.0 ∙ ap (λ (l : List ℕ). each (map plain_meter (take n c.args.s.meters)) encode_meter ++ drop (25 * n) l) (take_rest l₃ 4374);
+      last = wrote.1;
+    } in
+    let end = drop (length l₃ - 4374) (drop 4374 l₃) in
+    record {
+      bytes = exact made end (nothing_left 4374 l₃);
+      means = copies made end;
+    }
