@@ -1,6 +1,5 @@
 -- Telegrams as numbers and bytes.
-use Rattle.std.specs.Prelude.{◌≡◌, List, [], ◌∷◌, ◌++◌, ℕ, ◌+◌, ◌*◌, eqb, length}
-use Rattle.laws.specs.Words.{if◌then◌else◌}
+use Rattle.std.specs.Prelude.{◌≡◌, List, [], ◌∷◌, ◌++◌, ℕ, ◌+◌, ◌*◌, eqb, length, if◌then◌else◌}
 use Rattle.numbers.specs.Values.{little}
 use Rattle.frame.specs.Frame.{Telegram, ack, short, long, Parsed, complete, incomplete, invalid, Why, checksum, stop, header, bad_length, start, data_of}
 use Rattle.frame_write.specs.Writer.{WriteOutcome}

@@ -1,6 +1,7 @@
 -- Laws in the shape that code needs: the sum byte by byte, and parse case by case.
+use Rattle.std.specs.Prelude.{if◌then◌else◌}
 use Rattle.std.proofs.Common.{◌≡◌, ℕ, ◌+◌, ◌-◌, ◌%◌, ◌^◌, ◌<◌, ◌≤◌, eqb, List, [], ◌∷◌, ◌++◌, length, take, drop, sym, refl, ap, ◌∙◌, add-one, arith, length-drop, length-take-le, take-suc, le-ltb, lt-ltb, eq-eqb, ne_eqb}
-use Rattle.laws.specs.Words.{if◌then◌else◌, at}
+use Rattle.laws.specs.Words.{at}
 use Rattle.frame.specs.declared.ParseOutcome.{ParseOutcome}
 use Rattle.frame.specs.View.{data_at, parsed_of, length_told, data_length, Finds}
 use Rattle.frame.specs.Frame.{ack, long, checksum, stop, header, bad_length, start, Parsed, complete, incomplete, invalid, added, sum, parse_short_value, parse_body, parse_long_value, parse}

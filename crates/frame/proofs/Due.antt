@@ -1,9 +1,10 @@
 -- How many bytes are due of an incomplete telegram: with fewer it stays incomplete, and with exactly so many it need
 -- not.
+use Rattle.std.specs.Prelude.{if◌then◌else◌}
 use Rattle.std.proofs.Common.{◌≡◌, ℕ, zero, suc, ◌+◌, ◌-◌, ◌<◌, ◌≤◌, Bool, true, false, not, ◌&&◌, eqb, ltb, List, [], ◌∷◌, ◌++◌, length, replicate, sym, refl, ap, ◌∙◌, arith, length-append, ltb-false, ltb-true, eqb-true}
 use borrow.Author.Tests.{eqb-false}
 use lib.ListN.{length-replicate}
-use Rattle.laws.specs.Words.{if◌then◌else◌, at, Bytes}
+use Rattle.laws.specs.Words.{at, Bytes}
 use Rattle.laws.proofs.Lists.{and_l, and_r}
 use Rattle.frame.specs.Frame.{ack, short, checksum, stop, header, bad_length, start, complete, incomplete, invalid, sum, parse_short_value, parse_body, parse_long_value, parse}
 use Rattle.frame.specs.Theorems.{Incomplete}

@@ -1,8 +1,9 @@
 -- More bytes behind those that were parsed: an answer that is not incomplete stays.
+use Rattle.std.specs.Prelude.{if◌then◌else◌}
 use Rattle.std.proofs.Common.{◌≡◌, ℕ, ◌+◌, ◌-◌, ◌<◌, ◌≤◌, Bool, true, false, not, ◌&&◌, eqb, ltb, List, [], ◌∷◌, ◌++◌, length, take, drop, sym, refl, ap, ◌∙◌, arith, length-append, length-drop, ltb-false, ltb-true, le-ltb}
 use lib.ListN.{get_or-append}
 use lib.Seq.{take-append-le, drop-append-le}
-use Rattle.laws.specs.Words.{if◌then◌else◌, at}
+use Rattle.laws.specs.Words.{at}
 use Rattle.frame.specs.Theorems.{Incomplete}
 use Rattle.frame.specs.Frame.{ack, header, bad_length, start, Parsed, complete, incomplete, invalid, parse_short_value, parse_body, parse_long_value, parse}
 use Rattle.frame.proofs.Cases.{short_few, long_few}

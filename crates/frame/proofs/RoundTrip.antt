@@ -1,8 +1,9 @@
 -- A written telegram is parsed to itself, and a parsed one is written back to the same bytes.
+use Rattle.std.specs.Prelude.{if◌then◌else◌}
 use Rattle.std.proofs.Common.{◌≡◌, ℕ, suc, ◌+◌, ◌-◌, ◌<◌, ◌≤◌, Bool, true, false, not, ◌&&◌, eqb, ltb, List, [], ◌∷◌, ◌++◌, length, take, drop, sym, refl, ap, ◌∙◌, append_assoc, add-one, arith, length-append, length-take-le, drop-cons, get_or-append-add, take-add, ltb-false, le-ltb, lt-ltb, eq-eqb, ne_eqb, eqb-true}
 use lib.Seq.{take-append_seam, get_or-append_seam}
 use Rattle.laws.proofs.Lists.{and_l, and_r}
-use Rattle.laws.specs.Words.{if◌then◌else◌, at}
+use Rattle.laws.specs.Words.{at}
 use Rattle.frame.specs.Frame.{Telegram, ack, short, long, Why, checksum, stop, header, bad_length, start, Parsed, complete, incomplete, invalid, sum, parse_short_value, parse_body, parse_long_value, parse, encode}
 
 pub parse_long_is : (bs : List ℕ) → 4 ≤ length bs → at bs 2 ≡ at bs 1 → at bs 3 ≡ 0x68 → 3 ≤ at bs 1 → at bs 1 + 6 ≤ length bs → parse_long_value bs ≡ parse_body (at bs 1) bs

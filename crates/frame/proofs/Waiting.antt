@@ -1,6 +1,7 @@
 -- An incomplete telegram is at most 260 bytes long.
+use Rattle.std.specs.Prelude.{if◌then◌else◌}
 use Rattle.std.proofs.Common.{◌≡◌, ℕ, ◌+◌, ◌-◌, ◌<◌, ◌≤◌, Bool, true, false, not, ◌&&◌, eqb, ltb, List, [], ◌∷◌, length, take, drop, refl, arith, ltb-true}
-use Rattle.laws.specs.Words.{if◌then◌else◌, at, Bytes}
+use Rattle.laws.specs.Words.{at, Bytes}
 use Rattle.frame.specs.Frame.{Telegram, ack, short, long, Why, checksum, stop, header, bad_length, start, complete, incomplete, invalid, sum, parse_short_value, parse_body, parse_long_value, parse}
 
 pub never : {A : Type 0} (t : Telegram) (n : ℕ) {m : ℕ} → complete t n ≡ incomplete m → A

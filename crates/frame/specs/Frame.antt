@@ -1,6 +1,6 @@
 -- Telegrams (EN 13757-2; 01, "A probe goes out"): what they are, their bytes, and how bytes are read as one.
-use Rattle.std.specs.Prelude.{ℕ, ◌+◌, ◌-◌, ◌%◌, not, ◌&&◌, List, [], ◌∷◌, ◌++◌, length, take, drop, ◌==◌, nat_lt}
-use Rattle.laws.specs.Words.{if◌then◌else◌, at}
+use Rattle.std.specs.Prelude.{ℕ, ◌+◌, ◌-◌, ◌%◌, not, ◌&&◌, List, [], ◌∷◌, ◌++◌, length, take, drop, ◌==◌, nat_lt, if◌then◌else◌}
+use Rattle.laws.specs.Words.{at}
 use Rattle.frame.specs.Protocol.{ack_byte, start_short, start_long, stop_byte}
 
 -- ACK; short, with C and A; long, with C, A, CI and data

@@ -1,6 +1,5 @@
 -- The telegrams of a master that searches, and what it takes for an answer.
-use Rattle.std.specs.Prelude.{ℕ, Bool, false, List, ◌==◌, bit_and, bit_or}
-use Rattle.laws.specs.Words.{if◌then◌else◌}
+use Rattle.std.specs.Prelude.{ℕ, Bool, false, List, ◌==◌, bit_and, bit_or, if◌then◌else◌}
 use Rattle.frame.specs.Protocol.{c_snd_ud, c_req_ud2, c_rsp_ud, fcb_bit, c_mask}
 use Rattle.frame.specs.Frame.{Telegram, ack, short, long}
 

@@ -1,6 +1,7 @@
 -- The proofs of specs/Theorems.antt.
+use Rattle.std.specs.Prelude.{if◌then◌else◌}
 use Rattle.std.proofs.Common.{◌≡◌, ℕ, ◌≤◌, Bool, true, false, ltb, List, ◌++◌, length, take, drop, sym, ap, ◌∙◌, arith, take-append-drop, length-take-le}
-use Rattle.laws.specs.Words.{if◌then◌else◌, Bytes}
+use Rattle.laws.specs.Words.{Bytes}
 use Rattle.frame.specs.Frame.{Telegram, ack, short, long, complete, parse, encode, data_of}
 use Rattle.frame.proofs.RoundTrip.{parse-encode, parse_back}
 use Rattle.frame_write.specs.Writer.{WriteOutcome, write}

@@ -1,6 +1,5 @@
 -- The telegram writer: 01's number (0, 11 or 12), how many bytes were written, and the lent bytes afterwards.
-use Rattle.std.specs.Prelude.{ℕ, List, ◌++◌, length, drop, nat_lt}
-use Rattle.laws.specs.Words.{if◌then◌else◌}
+use Rattle.std.specs.Prelude.{ℕ, List, ◌++◌, length, drop, nat_lt, if◌then◌else◌}
 use Rattle.laws.specs.Refusal.{not_refused, refused_data, refused_room}
 use Rattle.frame.specs.Frame.{Telegram, encode, data_of}
 

@@ -1,4 +1,5 @@
 -- Counting the records from a position on: the loop's invariant, a turn, the two ends.
+use Rattle.std.specs.Prelude.{if◌then◌else◌}
 use mathlib.Core.Path.{◌≡◌, refl, sym, ap, ◌∙◌}
 use mathlib.Core.Bool.{Bool, true, false}
 use mathlib.Core.List.{List}
@@ -8,7 +9,7 @@ use native.Mathlib.Omega.{arith}
 use lib.Dec.{eqb, leb, ltb}
 use lib.ListN.{length, drop, length-drop}
 use borrow.Author.Tests.{leb-true, leb-false, ltb-true, ltb-false, lt-ltb, le-ltb, eq-eqb, ne_eqb}
-use Rattle.laws.specs.Words.{if◌then◌else◌, at}
+use Rattle.laws.specs.Words.{at}
 use Rattle.list.specs.Layout.{Listed, Layout, fits, no_fit, read_records}
 use Rattle.list.specs.declared.Listed.{Listed as Placed}
 use Rattle.list.specs.declared.Step.TheVariants.{Record, Bad, End}

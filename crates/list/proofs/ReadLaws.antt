@@ -1,5 +1,6 @@
 -- Reading by positions and reading the list of bytes agree: what stands at a position is the first record of the
 -- bytes from there on.
+use Rattle.std.specs.Prelude.{if◌then◌else◌}
 use mathlib.Core.Path.{◌≡◌, refl, sym, ap, ap₂, ◌∙◌}
 use mathlib.Core.Bool.{Bool, true, false, ◌&&◌}
 use mathlib.Core.List.{List, [], ◌∷◌}
@@ -10,7 +11,7 @@ use lib.Dec.{eqb, leb, ltb}
 use lib.ListN.{length, take, drop, length-drop, drop_of_length-le}
 use lib.Seq.{slice, slice_empty, slice-cons, length-slice, drop-cons, drop-drop, take-take, get_or-take, get_or-drop}
 use borrow.Author.Tests.{leb-true, leb-false, ltb-true, ltb-false, eqb-true, eqb-false, lt-ltb, le-leb, lt-leb}
-use Rattle.laws.specs.Words.{if◌then◌else◌, at}
+use Rattle.laws.specs.Words.{at}
 use Rattle.laws.proofs.Copying.{drop-take}
 use Rattle.list.specs.Layout.{Listed, texts, no_texts, first_text, read_texts, Layout, fits, no_fit, made, read_records}
 use Rattle.list.specs.declared.Step.{Step}

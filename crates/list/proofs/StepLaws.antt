@@ -1,4 +1,5 @@
 -- What stands at a position, by the tests of the program that reads it.
+use Rattle.std.specs.Prelude.{if◌then◌else◌}
 use mathlib.Core.Path.{◌≡◌, refl, ap}
 use mathlib.Core.Bool.{Bool, true, false, ◌&&◌}
 use mathlib.Core.List.{List}
@@ -7,7 +8,7 @@ use native.Mathlib.Omega.{arith}
 use lib.Dec.{ltb}
 use lib.ListN.{length}
 use borrow.Author.Tests.{ltb-true, lt-ltb, le-ltb, le-leb, lt-leb, eq-eqb, ne_eqb}
-use Rattle.laws.specs.Words.{if◌then◌else◌, at}
+use Rattle.laws.specs.Words.{at}
 use Rattle.laws.proofs.Lists.{and_l, and_r}
 use Rattle.list.specs.declared.Listed.{Listed as Placed}
 use Rattle.list.specs.declared.Step.TheVariants.{Record, Bad, End}

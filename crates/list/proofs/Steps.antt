@@ -1,4 +1,5 @@
 -- The steps of a reader, one after another, give the records of the list's definition.
+use Rattle.std.specs.Prelude.{if◌then◌else◌}
 use mathlib.Core.Path.{◌≡◌, refl, sym, ap, ◌∙◌}
 use mathlib.Core.Bool.{Bool, true, false}
 use mathlib.Core.List.{List, []}
@@ -7,7 +8,6 @@ use lib.Dec.{leb}
 use lib.ListN.{length, drop, drop_of_length-le}
 use lib.Seq.{drop-cons}
 use borrow.Author.Tests.{leb-true, leb-false}
-use Rattle.laws.specs.Words.{if◌then◌else◌}
 use Rattle.list.specs.Layout.{Layout, fits, no_fit, read_records}
 use Rattle.list.specs.ProgramReading.{listed_of, step_at}
 use Rattle.list.specs.declared.Step.{Step}

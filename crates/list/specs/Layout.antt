@@ -1,8 +1,8 @@
 -- The meter list's byte layout, read: "A record: one byte, the length of its rest; primary; version; own baud in four
 -- bytes big-endian, 0 = the bus's at opening;
 -- four texts, each after a length byte: id, manufacturer, medium, fault. The parts fill each length exactly."
-use Rattle.std.specs.Prelude.{◌&&◌, List, [], ◌∷◌, ℕ, zero, suc, ◌+◌, ◌*◌, leb, length, take, drop, get_or}
-use Rattle.laws.specs.Words.{if◌then◌else◌, at}
+use Rattle.std.specs.Prelude.{◌&&◌, List, [], ◌∷◌, ℕ, zero, suc, ◌+◌, ◌*◌, leb, length, take, drop, get_or, if◌then◌else◌}
+use Rattle.laws.specs.Words.{at}
 
 -- a record of the list: one meter
 pub record Listed : Type 0 where

@@ -1,8 +1,8 @@
 -- The layout read by positions, as the program reads it: what stands at a position of the list's bytes. That the
 -- steps give 01's records is proved
 -- (proofs/Steps, `steps_are_records`).
-use Rattle.std.specs.Prelude.{◌&&◌, ◌||◌, not, List, ℕ, ◌+◌, ◌-◌, ◌*◌, ◌≤◌, ◌<◌, eqb, leb, ltb, length, take, drop}
-use Rattle.laws.specs.Words.{if◌then◌else◌, at}
+use Rattle.std.specs.Prelude.{◌&&◌, ◌||◌, not, List, ℕ, ◌+◌, ◌-◌, ◌*◌, ◌≤◌, ◌<◌, eqb, leb, ltb, length, take, drop, if◌then◌else◌}
+use Rattle.laws.specs.Words.{at}
 use Rattle.list.specs.Layout.{Listed, Layout, fits, no_fit, read_records}
 use Rattle.list.specs.declared.Text.{Text}
 use Rattle.list.specs.declared.Listed.{Listed as Placed}

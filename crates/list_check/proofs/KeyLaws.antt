@@ -1,4 +1,5 @@
 -- Keys looked up in a table: the loop's invariant, a turn, the ends; and the rule of each table, over the whole table.
+use Rattle.std.specs.Prelude.{if◌then◌else◌}
 use mathlib.Core.Path.{◌≡◌, refl, sym, ap, ap₂, ◌∙◌}
 use mathlib.Core.Bool.{Bool, true, false, cond, ◌&&◌, ◌||◌}
 use mathlib.Core.List.{List, [], ◌∷◌, map}
@@ -9,7 +10,7 @@ use lib.Dec.{leb, ltb}
 use lib.ListN.{length, take, drop, get_or, get_or-eq_default}
 use lib.Seq.{drop-drop, get_or-drop}
 use borrow.Author.Tests.{lt-ltb, le-ltb, ltb-true, ltb-false, leb-true}
-use Rattle.laws.specs.Words.{if◌then◌else◌, at, same_list}
+use Rattle.laws.specs.Words.{at, same_list}
 use Rattle.laws.proofs.Lists.{and_l, and_r}
 use Rattle.list_check.specs.Tables.{Medium, FaultKey, is_medium_value, is_fault, medium_of, fault_of, medium_water, fault_none}
 use Rattle.list_check.specs.ProgramKeys.{place, keys_of, KeyTable}

@@ -1,7 +1,7 @@
 -- "A meter passes `check`, in its order (4 to 9 below)": the first number that a record fails with, or 0. "Version
 -- may be any byte."
-use Rattle.std.specs.Prelude.{Bool, true, ◌&&◌, ◌||◌, not, List, [], ◌∷◌, map, ℕ, ◌-◌, eqb, ltb, length}
-use Rattle.laws.specs.Words.{if◌then◌else◌, within, same_list}
+use Rattle.std.specs.Prelude.{Bool, true, ◌&&◌, ◌||◌, not, List, [], ◌∷◌, map, ℕ, ◌-◌, eqb, ltb, length, if◌then◌else◌}
+use Rattle.laws.specs.Words.{within, same_list}
 use Rattle.laws.specs.Refusal.{not_refused, refused_primary, refused_id, refused_manufacturer, refused_medium, refused_own_baud, refused_fault}
 use Rattle.meter.specs.Meter.{rates}
 use Rattle.list_check.specs.Tables.{media, faults, is_medium_value, is_fault, is_rate_value, medium_heat_old}

@@ -1,6 +1,5 @@
 -- What the program's `check` gives: the values of a record that passes, or what it fails with.
-use Rattle.std.specs.Prelude.{◌≡◌, ℕ, eqb}
-use Rattle.laws.specs.Words.{if◌then◌else◌}
+use Rattle.std.specs.Prelude.{◌≡◌, ℕ, eqb, if◌then◌else◌}
 use Rattle.laws.specs.Refusal.{not_refused, refused_primary, refused_id, refused_manufacturer, refused_medium, refused_own_baud, refused_fault}
 use Rattle.meter_identity.specs.Identity.{manufacturer_code_value, in_base, decimal}
 use Rattle.list_check.specs.Tables.{media, faults, medium_of, fault_of}

@@ -1,6 +1,6 @@
 -- The program's tables of keys: fourteen bytes for each, its length, its text and spaces.
-use Rattle.std.specs.Prelude.{◌≡◌, List, [], ◌∷◌, map, ℕ, zero, suc, ◌*◌, ◌≤◌, ◌<◌, length, take, drop}
-use Rattle.laws.specs.Words.{if◌then◌else◌, at, same_list}
+use Rattle.std.specs.Prelude.{◌≡◌, List, [], ◌∷◌, map, ℕ, zero, suc, ◌*◌, ◌≤◌, ◌<◌, length, take, drop, if◌then◌else◌}
+use Rattle.laws.specs.Words.{at, same_list}
 use Rattle.list_check.specs.Tables.{Medium, FaultKey, media, faults}
 
 -- the place of a text among keys; their number, if it is none of them

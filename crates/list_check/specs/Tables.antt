@@ -1,8 +1,8 @@
 -- "The keys and codes are those of MEDIA, FAULTS and BAUD_RATES": key texts as bytes, codes, and the kinds that the
 -- Rust's `model_of` and `fault_of` give. The rates are in `meter`.
-use Rattle.std.specs.Prelude.{Bool, false, ◌||◌, List, [], ◌∷◌, ℕ, eqb}
+use Rattle.std.specs.Prelude.{Bool, false, ◌||◌, List, [], ◌∷◌, ℕ, eqb, if◌then◌else◌}
 use Rattle.laws.specs.Ascii.{ascii}
-use Rattle.laws.specs.Words.{if◌then◌else◌, same_list}
+use Rattle.laws.specs.Words.{same_list}
 use Rattle.meter.specs.declared.Fault.{Fault}
 use Rattle.meter.specs.declared.Fault.TheVariants.{None, Checksum, Truncated, Busy, WrongAddress, Flaky, TooMany}
 use Rattle.meter.specs.declared.Model.{Model}

@@ -1,4 +1,5 @@
 -- The program's fresh meter is the plain one: the id's nibbles are its digits.
+use Rattle.std.specs.Prelude.{if◌then◌else◌}
 use mathlib.Core.Path.{◌≡◌, refl}
 use mathlib.Core.Bool.{Bool, true, false}
 use lib.Dec.{eqb}
@@ -7,7 +8,6 @@ use Prim.Native.Nat.{ℕ}
 use native.Mathlib.Omega.{arith}
 use Rattle.laws.proofs.Lists.{every_map}
 use Rattle.meter_identity.proofs.IdentityLaws.{nibbles_back}
-use Rattle.laws.specs.Words.{if◌then◌else◌}
 use Rattle.meter_identity.specs.Identity.{in_base, digits_of_value}
 use Rattle.meter.specs.View.{plain_meter}
 use Rattle.list.specs.Layout.{Listed}

@@ -1,4 +1,5 @@
 -- A record that passes has an id of eight digits below ten.
+use Rattle.std.specs.Prelude.{if◌then◌else◌}
 use mathlib.Core.Path.{◌≡◌, refl, ◌∙◌}
 use mathlib.Core.Bool.{Bool, true, false, ◌&&◌, ◌||◌, not}
 use mathlib.Core.List.{List, [], ◌∷◌}
@@ -7,7 +8,7 @@ use native.Mathlib.Omega.{arith}
 use lib.Dec.{eqb, leb, ltb}
 use borrow.Author.Tests.{eqb-true, leb-true}
 use lib.ListN.{length, length-map}
-use Rattle.laws.specs.Words.{if◌then◌else◌, Every}
+use Rattle.laws.specs.Words.{Every}
 use Rattle.laws.proofs.Lists.{and_l, and_r}
 use Rattle.meter.specs.Meter.{rates}
 use Rattle.list_check.specs.Tables.{media, faults, is_medium_value, is_fault, is_rate_value}

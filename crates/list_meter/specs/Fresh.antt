@@ -1,6 +1,5 @@
 -- The meter of a record, as an opening begins with it.
-use Rattle.std.specs.Prelude.{Bool, false, ◌&&◌, List, ℕ, ◌*◌, ◌%◌, eqb}
-use Rattle.laws.specs.Words.{if◌then◌else◌}
+use Rattle.std.specs.Prelude.{Bool, false, ◌&&◌, List, ℕ, ◌*◌, ◌%◌, eqb, if◌then◌else◌}
 use Rattle.meter_identity.specs.Identity.{manufacturer_code_value, decimal}
 use Rattle.meter.specs.PlainMeter.{PlainMeter}
 use Rattle.meter.specs.declared.LastFcb.TheVariants.{Never}

@@ -1,4 +1,5 @@
 -- What a step of the reader brings, stored in its place, is one step more of the meters gathered.
+use Rattle.std.specs.Prelude.{if◌then◌else◌}
 use mathlib.Core.Path.{◌≡◌, refl, sym, ap, subst, ◌∙◌}
 use mathlib.Core.Bool.{Bool, true, false}
 use mathlib.Core.List.{List}
@@ -7,7 +8,6 @@ use native.Mathlib.Omega.{arith}
 use lib.ListN.{get_or, set, replicate}
 use lib.Seq.{set-get_or, get_or-set_other}
 use Rattle.list_open.specs.Opening.{most_meters}
-use Rattle.laws.specs.Words.{if◌then◌else◌}
 use Rattle.meter.specs.declared.Meter.{Meter}
 use Rattle.list.specs.ProgramReading.{listed_of}
 use Rattle.list_check.specs.Checked.{checked_of}

@@ -1,4 +1,5 @@
 -- The reader's steps gathered, by the tests of the program.
+use Rattle.std.specs.Prelude.{if◌then◌else◌}
 use mathlib.Core.Path.{◌≡◌, refl, sym, ap, ◌∙◌}
 use mathlib.Core.Bool.{Bool, true, false}
 use mathlib.Core.List.{List}
@@ -7,7 +8,6 @@ use native.Mathlib.Numerals.{add-one}
 use lib.ListN.{set, replicate}
 use borrow.Author.Tests.{lt-ltb, le-ltb}
 use Rattle.list_open.specs.Opening.{most_meters}
-use Rattle.laws.specs.Words.{if◌then◌else◌}
 use Rattle.meter.specs.declared.Meter.{Meter}
 use Rattle.list.specs.ProgramReading.{listed_of, step_at, at_of_value}
 use Rattle.list_check.specs.Checked.{checked_of}

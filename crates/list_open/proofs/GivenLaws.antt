@@ -1,4 +1,5 @@
 -- What the program's opening answers is what the definition gives, case by case.
+use Rattle.std.specs.Prelude.{if◌then◌else◌}
 use mathlib.Core.Path.{◌≡◌, refl, sym, ap, ap₂, subst, ◌∙◌}
 use mathlib.Core.Bool.{Bool, true, false, ◌&&◌, ◌||◌, not}
 use mathlib.Core.List.{List, map}
@@ -7,7 +8,7 @@ use native.Mathlib.Nat.{zero-add}
 use native.Mathlib.Omega.{arith}
 use lib.Dec.{eqb, ltb}
 use lib.ListN.{length, take, drop, length-map, length-replicate}
-use Rattle.laws.specs.Words.{if◌then◌else◌, at}
+use Rattle.laws.specs.Words.{at}
 use Rattle.laws.specs.Sweep.{fold}
 use Rattle.meter.specs.Meter.{rates}
 use Rattle.meter.specs.View.{blank_meter_value, plain_meter}

@@ -1,5 +1,6 @@
 -- The capacity; opened meters are at most as many, and each has an id of eight digits below ten. A refusal's number is
 -- above 0, and its index below the capacity.
+use Rattle.std.specs.Prelude.{if◌then◌else◌}
 use mathlib.Core.Path.{◌≡◌, refl}
 use mathlib.Core.Bool.{Bool, true, false, ◌||◌, not}
 use mathlib.Core.List.{List, [], ◌∷◌, map}
@@ -8,7 +9,7 @@ use native.Mathlib.Omega.{arith}
 use lib.Dec.{eqb, ltb}
 use borrow.Author.Tests.{eqb-true, lt-ltb, le-ltb, ltb-false}
 use lib.ListN.{length, drop, length-map}
-use Rattle.laws.specs.Words.{if◌then◌else◌, at, Every}
+use Rattle.laws.specs.Words.{at, Every}
 use Rattle.laws.proofs.Lists.{if_all, and_l, and_r}
 use Rattle.meter.specs.Meter.{rates}
 use Rattle.list_check.specs.Tables.{is_rate_value}

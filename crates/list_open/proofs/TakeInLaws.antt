@@ -1,4 +1,5 @@
 -- Records taken in: if all pass, their fresh meters; else the first that fails, with its index and number.
+use Rattle.std.specs.Prelude.{if◌then◌else◌}
 use mathlib.Core.Path.{◌≡◌, refl, sym, ap, ◌∙◌}
 use mathlib.Core.Bool.{Bool, true, false, ◌&&◌}
 use mathlib.Core.List.{List, [], ◌∷◌, ◌++◌, map, append_assoc, append-nil, map-append}
@@ -11,7 +12,6 @@ use lib.ListN.{length, take, set, length-set}
 use lib.Seq.{take-suc-set}
 use borrow.Author.Tests.{lt-ltb, eqb-true, eqb-false, ne_eqb}
 use Rattle.list_open.specs.Opening.{most_meters, first_failing}
-use Rattle.laws.specs.Words.{if◌then◌else◌}
 use Rattle.laws.specs.Sweep.{fold}
 use Rattle.laws.proofs.Lists.{and_l, and_r}
 use Rattle.meter.specs.PlainMeter.{PlainMeter}

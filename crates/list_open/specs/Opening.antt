@@ -1,6 +1,6 @@
 -- A list of meters, opened: "Opening takes list, bus baud, a practice flag and the origin".
-use Rattle.std.specs.Prelude.{Bool, ◌||◌, not, List, [], map, ℕ, zero, suc, ◌+◌, ◌-◌, ◌*◌, eqb, ltb, length, drop}
-use Rattle.laws.specs.Words.{if◌then◌else◌, at}
+use Rattle.std.specs.Prelude.{Bool, ◌||◌, not, List, [], map, ℕ, zero, suc, ◌+◌, ◌-◌, ◌*◌, eqb, ltb, length, drop, if◌then◌else◌}
+use Rattle.laws.specs.Words.{at}
 use Rattle.laws.specs.Refusal.{not_refused, refused_version, refused_length, refused_capacity, refused_baud}
 use Rattle.meter.specs.PlainMeter.{PlainMeter}
 use Rattle.meter.specs.Meter.{rates}

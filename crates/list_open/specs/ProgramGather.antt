@@ -1,9 +1,8 @@
 -- What the program makes of the list's records, one after another: its meters, or the first record that fails; first
 -- as a fold over the records, then with each meter
 -- stored in its place, as the loop does it. That it comes to 01's opening is proved (proofs/GivenLaws).
-use Rattle.std.specs.Prelude.{◌≡◌, Bool, List, ℕ, zero, suc, ◌+◌, ◌≤◌, ltb, get_or, set, replicate}
+use Rattle.std.specs.Prelude.{◌≡◌, Bool, List, ℕ, zero, suc, ◌+◌, ◌≤◌, ltb, get_or, set, replicate, if◌then◌else◌}
 use Rattle.list_open.specs.Opening.{most_meters}
-use Rattle.laws.specs.Words.{if◌then◌else◌}
 use Rattle.meter.specs.View.{blank_meter_value}
 use Rattle.meter.specs.declared.Meter.{Meter}
 use Rattle.list.specs.ProgramReading.{listed_of, step_at, at_of_value}

@@ -1,4 +1,5 @@
 -- The letters of a manufacturer.
+use Rattle.std.specs.Prelude.{if◌then◌else◌}
 use mathlib.Core.Path.{◌≡◌, refl}
 use mathlib.Core.Bool.{Bool, true, false, ◌&&◌}
 use mathlib.Core.List.{List, []}
@@ -7,7 +8,6 @@ use native.Mathlib.Omega.{arith}
 use lib.Dec.{eqb}
 use lib.ListN.{length, take}
 use borrow.Author.Tests.{eq-eqb, ne_eqb}
-use Rattle.laws.specs.Words.{if◌then◌else◌}
 use Rattle.laws.proofs.Lists.{if_all}
 use Rattle.meter.specs.declared.Model.{Model}
 use Rattle.list_check.specs.Tables.{medium_heat_old}

@@ -1,6 +1,5 @@
 -- The record of a meter as the program writes it: part after part, each behind those before it.
-use Rattle.std.specs.Prelude.{◌≡◌, List, [], ◌∷◌, ◌++◌, ℕ, suc, ◌+◌, ◌/◌, ◌%◌, ◌≤◌, ◌<◌, length, take, drop}
-use Rattle.laws.specs.Words.{if◌then◌else◌}
+use Rattle.std.specs.Prelude.{◌≡◌, List, [], ◌∷◌, ◌++◌, ℕ, suc, ◌+◌, ◌/◌, ◌%◌, ◌≤◌, ◌<◌, length, take, drop, if◌then◌else◌}
 use Rattle.meter.specs.declared.Model.{Model}
 use Rattle.list.specs.Layout.{Listed}
 use Rattle.list.specs.Written.{write_rest}

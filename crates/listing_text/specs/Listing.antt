@@ -1,7 +1,6 @@
 -- 01, "The listing program": what it writes for what it reads.
-use Rattle.std.specs.Prelude.{false, List, ℕ, eqb, take, replicate}
+use Rattle.std.specs.Prelude.{false, List, ℕ, eqb, take, replicate, if◌then◌else◌}
 use Rattle.search.specs.Site.{site, october}
-use Rattle.laws.specs.Words.{if◌then◌else◌}
 use Rattle.list_open.specs.Opening.{number_in, open_list_value, capacity}
 use Rattle.search.specs.declared.EntryRecord.{EntryRecord}
 use Rattle.search.specs.declared.Kind.TheVariants.{One}

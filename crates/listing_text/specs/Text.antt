@@ -1,8 +1,8 @@
 -- 01, "The listing program": the text for a search's records, and for a refused list.
 -- Texts are lists of ASCII codes.
-use Rattle.std.specs.Prelude.{◌≡◌, List, [], ◌∷◌, ◌++◌, map, ℕ, zero, suc, ◌+◌, ◌*◌, ◌/◌, ◌%◌, eqb, ltb, length, take, drop}
+use Rattle.std.specs.Prelude.{◌≡◌, List, [], ◌∷◌, ◌++◌, map, ℕ, zero, suc, ◌+◌, ◌*◌, ◌/◌, ◌%◌, eqb, ltb, length, take, drop, if◌then◌else◌}
 use Rattle.laws.specs.Ascii.{ascii}
-use Rattle.laws.specs.Words.{if◌then◌else◌, each}
+use Rattle.laws.specs.Words.{each}
 use Rattle.list_open.specs.Opening.{capacity}
 use Rattle.search.specs.declared.EntryRecord.{EntryRecord}
 use Rattle.search.specs.declared.Kind.{Kind}

@@ -1,4 +1,5 @@
 -- A telegram that does not concern a meter leaves it as it is, and it does not reply.
+use Rattle.std.specs.Prelude.{if◌then◌else◌}
 use mathlib.Core.Path.{◌≡◌, refl, sym, ap, ◌∙◌}
 use mathlib.Core.Bool.{Bool, true, false, ◌&&◌, ◌||◌, not}
 use mathlib.Core.List.{List}
@@ -6,7 +7,7 @@ use Prim.Native.Nat.{ℕ, ◌+◌, ◌*◌}
 use native.Mathlib.Omega.{arith}
 use lib.Dec.{eqb}
 use lib.Ieee.{Float}
-use Rattle.laws.specs.Words.{if◌then◌else◌, at}
+use Rattle.laws.specs.Words.{at}
 use Rattle.laws.proofs.Lists.{if_all, if_with}
 use Rattle.frame.specs.Frame.{Telegram, ack, short, long}
 use Rattle.time_clock.specs.declared.Clock.{Clock}

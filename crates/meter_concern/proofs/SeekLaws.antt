@@ -1,4 +1,5 @@
 -- A mask over an id as one number is the match digit by digit.
+use Rattle.std.specs.Prelude.{if◌then◌else◌}
 use mathlib.Core.Path.{◌≡◌, refl, sym, ap, ap₂, ◌∙◌}
 use mathlib.Core.Bool.{Bool, true, false, ◌&&◌, ◌||◌, and-true, and-false}
 use mathlib.Core.List.{List, [], ◌∷◌}
@@ -9,7 +10,7 @@ use borrow.Author.Tests.{eqb-true, eq-eqb, ne_eqb, le-leb, lt-leb}
 use lib.Dec.{eqb}
 use lib.ListN.{length}
 use lib.Bits.{bit_and, and_zero_r, and_mask, and_block, and_le_l}
-use Rattle.laws.specs.Words.{if◌then◌else◌, at}
+use Rattle.laws.specs.Words.{at}
 use Rattle.laws.proofs.Lists.{and_l, and_r, and_both, four}
 use Rattle.numbers.specs.Number.{number}
 use Rattle.meter_identity.specs.Identity.{nibbles, digits_of_value}

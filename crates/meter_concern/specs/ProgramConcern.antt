@@ -1,8 +1,7 @@
 -- Which meters the program steps at all. The word is the program's: that the others stay as they are, without a
 -- reply, is proved
 -- (proofs/ConcernLaws, `unconcerned`).
-use Rattle.std.specs.Prelude.{Bool, false, ◌||◌, List, ℕ}
-use Rattle.laws.specs.Words.{if◌then◌else◌}
+use Rattle.std.specs.Prelude.{Bool, false, ◌||◌, List, ℕ, if◌then◌else◌}
 use Rattle.frame.specs.Frame.{Telegram, ack, short, long}
 use Rattle.meter_identity.specs.Identity.{digits_of_value}
 use Rattle.meter_select.specs.Matching.{id_matches_value}

@@ -1,7 +1,6 @@
 -- Whom a telegram concerns, as the program works it out once for each telegram.
-use Rattle.std.specs.Prelude.{◌≡◌, Bool, ◌&&◌, ◌||◌, ℕ, ◌+◌, ◌*◌, ◌/◌, ◌%◌, ◌^◌, ◌<◌, eqb}
+use Rattle.std.specs.Prelude.{◌≡◌, Bool, ◌&&◌, ◌||◌, ℕ, ◌+◌, ◌*◌, ◌/◌, ◌%◌, ◌^◌, ◌<◌, eqb, if◌then◌else◌}
 use Rattle.std.specs.Int.Bits.{bit_and}
-use Rattle.laws.specs.Words.{if◌then◌else◌}
 use Rattle.meter_concern.specs.declared.Seeking.{Seeking}
 
 -- F where a digit of a select's mask is known, 0 where it is F and matches any

@@ -1,7 +1,6 @@
 -- The data of a meter's reply (01, "A lone meter is read"): `rsp_ud`'s layout, by the meter's model.
-use Rattle.std.specs.Prelude.{List, [], ◌∷◌, ◌++◌, ℕ, ◌+◌, ◌*◌, ◌/◌, ◌%◌, eqb, Float}
+use Rattle.std.specs.Prelude.{List, [], ◌∷◌, ◌++◌, ℕ, ◌+◌, ◌*◌, ◌/◌, ◌%◌, eqb, Float, if◌then◌else◌}
 use Rattle.laws.specs.Ascii.{ascii}
-use Rattle.laws.specs.Words.{if◌then◌else◌}
 use Rattle.numbers.specs.Values.{little, bcd}
 use Rattle.time_dates.specs.Dates.{type_g_value, type_f_value}
 use Rattle.meter_identity.specs.Identity.{id_bytes_value}

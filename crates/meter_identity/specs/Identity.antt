@@ -1,6 +1,6 @@
 -- How ids and manufacturer codes are written into bytes.
-use Rattle.std.specs.Prelude.{◌&&◌, List, [], ◌∷◌, ℕ, ◌+◌, ◌-◌, ◌*◌, ◌/◌, ◌%◌, leb, take}
-use Rattle.laws.specs.Words.{if◌then◌else◌, at}
+use Rattle.std.specs.Prelude.{◌&&◌, List, [], ◌∷◌, ℕ, ◌+◌, ◌-◌, ◌*◌, ◌/◌, ◌%◌, leb, take, if◌then◌else◌}
+use Rattle.laws.specs.Words.{at}
 use Rattle.laws.specs.Sweep.{fold}
 
 -- a small letter as its capital, every other byte as it is

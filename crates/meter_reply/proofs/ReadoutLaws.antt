@@ -1,9 +1,10 @@
 -- What a readout is: how long, and what is read from it.
+use Rattle.std.specs.Prelude.{if◌then◌else◌}
 use Rattle.std.proofs.Common.{◌≡◌, ℕ, suc, ◌+◌, ◌-◌, ◌*◌, ◌/◌, ◌<◌, ◌≤◌, Bool, true, false, ◌||◌, eqb, leb, List, [], ◌∷◌, ◌++◌, length, take, refl, arith, length-append, length-set, length-take, leb-false, leb-true}
 use lib.Bits.{bit_and, bit_xor, xor_add_and, and_step}
 use lib.Ieee.{Float}
 use lib.Seq.{set_at, get_or_at}
-use Rattle.laws.specs.Words.{if◌then◌else◌, at}
+use Rattle.laws.specs.Words.{at}
 use Rattle.laws.proofs.Lists.{if_all}
 use Rattle.frame.specs.Frame.{Telegram, long, checksum, invalid, encode, sum, parse}
 use Rattle.frame.specs.Theorems.{Incomplete}

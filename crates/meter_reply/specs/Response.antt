@@ -1,8 +1,8 @@
 -- What a meter answers a REQ_UD2 with (01, "A lone meter is read"): "`rsp_ud`'s layout, C 08", and what the faults
 -- make of it.
 -- Values go by the whole seconds of the elapsed time, "stopped at the largest u32 (u64 for heat_old)".
-use Rattle.std.specs.Prelude.{ℕ, ◌+◌, ◌-◌, ◌/◌, ◌%◌, List, [], ◌∷◌, ◌++◌, length, take, ◌==◌, bit_xor, nat_lt, slice_set, Float}
-use Rattle.laws.specs.Words.{if◌then◌else◌, at}
+use Rattle.std.specs.Prelude.{ℕ, ◌+◌, ◌-◌, ◌/◌, ◌%◌, List, [], ◌∷◌, ◌++◌, length, take, ◌==◌, bit_xor, nat_lt, slice_set, Float, if◌then◌else◌}
+use Rattle.laws.specs.Words.{at}
 use Rattle.frame.specs.Protocol.{c_rsp_ud, ci_error, ci_variable, ci_fixed}
 use Rattle.frame.specs.Frame.{Telegram, long, encode}
 use Rattle.time_seconds.specs.Seconds.{whole, last32}

@@ -1,4 +1,5 @@
 -- What the two telegrams of a search do to a meter.
+use Rattle.std.specs.Prelude.{if◌then◌else◌}
 use mathlib.Core.Path.{◌≡◌, refl, ◌∙◌, ap}
 use mathlib.Core.Bool.{Bool, true, false, ◌&&◌}
 use mathlib.Core.List.{List}
@@ -6,7 +7,6 @@ use Prim.Native.Nat.{ℕ}
 use native.Mathlib.Omega.{arith}
 use lib.Dec.{eqb}
 use lib.Ieee.{Float}
-use Rattle.laws.specs.Words.{if◌then◌else◌}
 use Rattle.laws.proofs.Lists.{if_all}
 use Rattle.frame.specs.Frame.{Telegram, short, long}
 use Rattle.meter_step.proofs.KeepLaws.{Fixed, hear_fixed}

@@ -1,4 +1,5 @@
 -- What the tests of user data tell, and who listens.
+use Rattle.std.specs.Prelude.{if◌then◌else◌}
 use mathlib.Core.Path.{◌≡◌, ap}
 use mathlib.Core.Bool.{true, ◌&&◌}
 use mathlib.Core.List.{List}
@@ -7,7 +8,7 @@ use borrow.Author.Tests.{eqb-true, leb-true, eq-eqb}
 use lib.Dec.{eqb, leb}
 use lib.Ieee.{Float}
 use lib.ListN.{length}
-use Rattle.laws.specs.Words.{if◌then◌else◌, at}
+use Rattle.laws.specs.Words.{at}
 use Rattle.laws.proofs.Lists.{and_l, and_r}
 use Rattle.frame.specs.Frame.{Telegram}
 use Rattle.meter.specs.PlainMeter.{PlainMeter}

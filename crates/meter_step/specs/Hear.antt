@@ -1,8 +1,8 @@
 -- What a telegram does to one meter (01, "Send, select, receive", "A lone meter is read", "The remaining telegrams"):
 -- the meter afterwards, and its reply.
-use Rattle.std.specs.Prelude.{Bool, true, false, ◌&&◌, ◌||◌, not, List, [], ◌∷◌, ℕ, ◌-◌, eqb, leb, Float, length, get_or}
+use Rattle.std.specs.Prelude.{Bool, true, false, ◌&&◌, ◌||◌, not, List, [], ◌∷◌, ℕ, ◌-◌, eqb, leb, Float, length, get_or, if◌then◌else◌}
 use Rattle.std.specs.Int.Bits.{bit_and}
-use Rattle.laws.specs.Words.{if◌then◌else◌, at}
+use Rattle.laws.specs.Words.{at}
 use Rattle.frame.specs.Protocol.{ack_byte, c_snd_nke, fcb_bit, c_mask, c_snd_ud_masked, c_req_ud2_masked, addr_selected, addr_broadcast_reply, addr_broadcast, ci_app_reset, ci_data_send, ci_select, ci_first_baud, ci_last_baud}
 use Rattle.frame.specs.Frame.{Telegram, ack, short, long}
 use Rattle.meter.specs.PlainMeter.{PlainMeter}

@@ -1,4 +1,5 @@
 -- What the table of refusals lets through, both ways.
+use Rattle.std.specs.Prelude.{if◌then◌else◌}
 use mathlib.Core.Path.{◌≡◌, refl, ap}
 use mathlib.Core.Bool.{Bool, true, false, ◌&&◌, not}
 use mathlib.Core.List.{List, [], ◌∷◌}
@@ -7,7 +8,6 @@ use native.Mathlib.Omega.{arith}
 use lib.Dec.{eqb, ltb}
 use lib.ListN.{length}
 use borrow.Author.Tests.{eq-eqb, eqb-true, le-ltb, ltb-false}
-use Rattle.laws.specs.Words.{if◌then◌else◌}
 use Rattle.laws.proofs.Lists.{and_l, and_r}
 use Rattle.time_clock.specs.declared.Clock.{Clock}
 use Rattle.segment.specs.Plain.{Plain}

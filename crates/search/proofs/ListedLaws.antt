@@ -1,5 +1,6 @@
 -- A search into records of its own, of which a part is lent, is 01's search into any records of which there is room
 -- for as many.
+use Rattle.std.specs.Prelude.{if◌then◌else◌}
 use mathlib.Core.Path.{◌≡◌, refl, sym, ap, ◌∙◌, subst}
 use mathlib.Core.Bool.{Bool, true, false, not}
 use mathlib.Core.List.{List, ◌++◌, map}
@@ -9,7 +10,6 @@ use lib.Dec.{ltb}
 use lib.ListN.{length, take, drop, length-append, length-drop, length-map}
 use lib.Seq.{length-take-le, take-append-le, take-append_seam}
 use borrow.Author.Tests.{lt-ltb, le-ltb, ltb-true, ltb-false}
-use Rattle.laws.specs.Words.{if◌then◌else◌}
 use Rattle.time_clock.specs.declared.Clock.{Clock}
 use Rattle.time_clock.specs.Fields.{good_clock_value}
 use Rattle.list_open.specs.Opening.{most_meters}

@@ -1,5 +1,6 @@
 -- Sending a mask to packed meters is 01's probe of the segment that they stand for: the mask goes through send, the
 -- E5 are counted, the reply is taken whole.
+use Rattle.std.specs.Prelude.{if◌then◌else◌}
 use mathlib.Core.Path.{◌≡◌, refl, sym, ap, ap₂, ◌∙◌}
 use mathlib.Core.Bool.{Bool, true, false, ◌&&◌, ◌||◌, not, and_comm}
 use mathlib.Core.List.{List, [], ◌∷◌, map}
@@ -9,7 +10,7 @@ use native.Mathlib.Omega.{arith}
 use lib.Dec.{eqb}
 use lib.Ieee.{Float}
 use lib.ListN.{length}
-use Rattle.laws.specs.Words.{if◌then◌else◌, keep, Every, bit_if, within}
+use Rattle.laws.specs.Words.{keep, Every, bit_if, within}
 use Rattle.meter_identity.specs.Identity.{digits_of_value}
 use Rattle.meter.specs.PlainMeter.{PlainMeter}
 use Rattle.time_clock.specs.declared.Clock.{Clock}

@@ -1,5 +1,6 @@
 -- Reading the one selected of packed meters is 01's reading of the segment that they stand for: REQ_UD2 goes through
 -- send, and the reply is taken whole.
+use Rattle.std.specs.Prelude.{if◌then◌else◌}
 use mathlib.Core.Path.{◌≡◌, refl, sym, ap, ap₂, ◌∙◌, subst}
 use mathlib.Core.Bool.{Bool, true, false, ◌&&◌, ◌||◌, not, and-false}
 use mathlib.Core.List.{List, [], ◌∷◌, map}
@@ -9,7 +10,7 @@ use lib.Dec.{eqb}
 use lib.Ieee.{Float}
 use lib.ListN.{length}
 use borrow.Author.Tests.{eqb-true}
-use Rattle.laws.specs.Words.{if◌then◌else◌, keep, Every, bit_if}
+use Rattle.laws.specs.Words.{keep, Every, bit_if}
 use Rattle.meter.specs.PlainMeter.{PlainMeter}
 use Rattle.time_clock.specs.declared.Clock.{Clock}
 use Rattle.meter.specs.Meter.{hears, offered}

@@ -1,4 +1,5 @@
 -- The packed walk is 01's walk over the segment that the marks stand for.
+use Rattle.std.specs.Prelude.{if◌then◌else◌}
 use mathlib.Core.Path.{◌≡◌, refl, sym, ap, ap₂, ◌∙◌, subst}
 use mathlib.Core.Bool.{Bool, true, false}
 use mathlib.Core.List.{List, [], ◌∷◌, ◌++◌, map}
@@ -9,7 +10,6 @@ use lib.Dec.{eqb, leb, ltb}
 use lib.Ieee.{Float}
 use borrow.Author.Tests.{ne_eqb, leb-true, leb-false}
 use lib.ListN.{length, take, length-append, length-map}
-use Rattle.laws.specs.Words.{if◌then◌else◌}
 use Rattle.meter.specs.PlainMeter.{PlainMeter}
 use Rattle.time_clock.specs.declared.Clock.{Clock}
 use Rattle.list_open.specs.Opening.{capacity}

@@ -1,8 +1,8 @@
 -- How the program's search packs the meters, and what a meter and an entry are that are packed. The words are the
 -- program's:
 -- that the packed search finds what 01's finds is proved (proofs/PackedWalk).
-use Rattle.std.specs.Prelude.{◌≡◌, Bool, true, false, List, ◌++◌, map, ℕ, zero, suc, ◌+◌, ◌*◌, ◌/◌, ◌%◌, ◌<◌, eqb, length, drop, replicate}
-use Rattle.laws.specs.Words.{if◌then◌else◌, bit_if}
+use Rattle.std.specs.Prelude.{◌≡◌, Bool, true, false, List, ◌++◌, map, ℕ, zero, suc, ◌+◌, ◌*◌, ◌/◌, ◌%◌, ◌<◌, eqb, length, drop, replicate, if◌then◌else◌}
+use Rattle.laws.specs.Words.{bit_if}
 use Rattle.meter_identity.specs.Identity.{in_base, digits_of_value}
 use Rattle.meter.specs.PlainMeter.{PlainMeter}
 use Rattle.meter.specs.Meter.{with, reached}

@@ -1,6 +1,5 @@
 -- 01, "The search (ours)": the search call, over the walk.
-use Rattle.std.specs.Prelude.{Bool, false, ◌&&◌, not, List, ◌++◌, map, ℕ, eqb, ltb, length, drop}
-use Rattle.laws.specs.Words.{if◌then◌else◌}
+use Rattle.std.specs.Prelude.{Bool, false, ◌&&◌, not, List, ◌++◌, map, ℕ, eqb, ltb, length, drop, if◌then◌else◌}
 use Rattle.laws.specs.Refusal.{not_refused, refused_clock, refused_not_empty, refused_entries}
 use Rattle.time_clock.specs.declared.Clock.{Clock}
 use Rattle.segment.specs.Plain.{Plain}

@@ -1,8 +1,8 @@
 -- What a mask and a reading do to the marks of packed meters. The words are the program's: that they do what sending
 -- them to the segment does is proved
 -- (search, proofs/PackedProbe, `probe-packed`, and proofs/PackedRead, `read-packed`).
-use Rattle.std.specs.Prelude.{ℕ, zero, suc, ◌+◌, ◌-◌, ◌*◌, ◌/◌, ◌%◌, Bool, ◌&&◌, ◌||◌, ltb, List, [], ◌∷◌, ◌==◌, bit_and, bit_or, bit_xor, nat_lt}
-use Rattle.laws.specs.Words.{if◌then◌else◌, bit_if, within}
+use Rattle.std.specs.Prelude.{ℕ, zero, suc, ◌+◌, ◌-◌, ◌*◌, ◌/◌, ◌%◌, Bool, ◌&&◌, ◌||◌, ltb, List, [], ◌∷◌, ◌==◌, bit_and, bit_or, bit_xor, nat_lt, if◌then◌else◌}
+use Rattle.laws.specs.Words.{bit_if, within}
 use Rattle.search_packed.specs.ProgramBits.{FRESH, HEARS, CLEAR, STEADY, FLAKY, FAILS, TOO_MANY, READOUTS, ACCESS}
 
 -- 1 where the meter with the mark s answers a telegram; put is 1 where the telegram is put to it

@@ -2,8 +2,7 @@
 -- finds is proved (search, proofs/PackedWalk).
 -- An entry is one number: the id with the E5 counted in front of it (one: 1), or a mute's mask, F for unknown, with
 -- 0; in front is what is above 2^32.
-use Rattle.std.specs.Prelude.{◌≡◌, ℕ, zero, suc, ◌+◌, ◌*◌, ◌≤◌, Bool, true, false, List, [], ◌∷◌, ◌++◌, length, take, ◌==◌, nat_le, nat_lt}
-use Rattle.laws.specs.Words.{if◌then◌else◌}
+use Rattle.std.specs.Prelude.{◌≡◌, ℕ, zero, suc, ◌+◌, ◌*◌, ◌≤◌, Bool, true, false, List, [], ◌∷◌, ◌++◌, length, take, ◌==◌, nat_le, nat_lt, if◌then◌else◌}
 use Rattle.list_open.specs.Opening.{capacity}
 use Rattle.search_packed.specs.declared.Found.{Found}
 use Rattle.search_packed.specs.declared.walk.Walk.{Walk}

@@ -1,11 +1,12 @@
 -- The plain segment is faithful where no flaky meter is at bus baud.
+use Rattle.std.specs.Prelude.{if◌then◌else◌}
 use mathlib.Core.Path.{◌≡◌, refl, sym, ap, ◌∙◌, subst}
 use mathlib.Core.Bool.{Bool, true, false, false≢true}
 use mathlib.Core.List.{List, [], ◌∷◌}
 use Prim.Native.Nat.{ℕ, ◌-◌, ◌≤◌}
 use lib.Ieee.{Float}
 use lib.ListN.{length}
-use Rattle.laws.specs.Words.{if◌then◌else◌, keep, Every}
+use Rattle.laws.specs.Words.{keep, Every}
 use Rattle.laws.proofs.Lists.{every_map, every_both}
 use Rattle.meter.specs.PlainMeter.{PlainMeter}
 use Rattle.time_clock.specs.declared.Clock.{Clock}

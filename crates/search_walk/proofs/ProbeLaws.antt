@@ -1,4 +1,5 @@
 -- A probe and a reading of a segment at rest: what comes back, and the segment afterwards. Neither is ever refused.
+use Rattle.std.specs.Prelude.{if◌then◌else◌}
 use mathlib.Core.Path.{◌≡◌, refl, ap, ◌∙◌}
 use mathlib.Core.Bool.{Bool, true, false, ◌&&◌}
 use mathlib.Core.List.{List, [], map}
@@ -7,7 +8,7 @@ use native.Mathlib.Omega.{arith}
 use lib.Dec.{eqb}
 use lib.Ieee.{Float}
 use lib.ListN.{length, length-map}
-use Rattle.laws.specs.Words.{if◌then◌else◌, keep, Every}
+use Rattle.laws.specs.Words.{keep, Every}
 use Rattle.laws.proofs.Lists.{every_map, every_all, every_image, length-keep, map-map}
 use Rattle.frame.specs.Frame.{Telegram, encode}
 use Rattle.time_seconds.specs.Seconds.{elapsed_of_value}

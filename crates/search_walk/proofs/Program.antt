@@ -1,6 +1,7 @@
 -- The walk in the shape of a program: the entries so far are in whatever holds them.
 -- Where what holds them has no room any more, it keeps what it has: entries are never more than meters, so this never
 -- shows.
+use Rattle.std.specs.Prelude.{if◌then◌else◌}
 use mathlib.Core.Path.{◌≡◌, refl, sym, ap, ◌∙◌}
 use mathlib.Core.Bool.{Bool, true, false}
 use mathlib.Core.List.{List, [], ◌∷◌, ◌++◌, map}
@@ -10,7 +11,6 @@ use lib.Dec.{leb, ltb, leb-suc-suc}
 use lib.ListN.{length, take, length-map}
 use lib.Seq.{take_all, take-nil}
 use borrow.Author.Tests.{lt-ltb}
-use Rattle.laws.specs.Words.{if◌then◌else◌}
 use Rattle.time_clock.specs.declared.Clock.{Clock}
 use Rattle.segment.specs.Plain.{Plain}
 use Rattle.search_walk.specs.Walk.{Entry, many, ten, probe, read, Walked, noted, row, answered, probed, walk, whole_walk}

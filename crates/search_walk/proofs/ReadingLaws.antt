@@ -1,4 +1,5 @@
 -- The entry that a lone meter's readout gives.
+use Rattle.std.specs.Prelude.{if◌then◌else◌}
 use mathlib.Core.Path.{◌≡◌, refl, ap, ap₂, ◌∙◌, subst}
 use mathlib.Core.Bool.{Bool, true, false}
 use mathlib.Core.List.{List, [], ◌∷◌, ◌++◌, append-nil}
@@ -8,7 +9,7 @@ use lib.Dec.{eqb, leb, eqb-suc-zero}
 use lib.Ieee.{Float}
 use lib.ListN.{length, length-append}
 use borrow.Author.Tests.{eq-eqb, le-leb, lt-ltb, le-ltb, leb-true, leb-false}
-use Rattle.laws.specs.Words.{if◌then◌else◌, Every}
+use Rattle.laws.specs.Words.{Every}
 use Rattle.frame.specs.Frame.{Telegram, long, Why, checksum, complete, invalid, parse, encode}
 use Rattle.frame.specs.Theorems.{Incomplete}
 use Rattle.frame.proofs.RoundTrip.{parse-encode}

@@ -1,5 +1,6 @@
 -- A probe and a reading of a segment at rest where no meter at bus baud is flaky: who answers, what is read, and what
 -- of the meters stays.
+use Rattle.std.specs.Prelude.{if◌then◌else◌}
 use mathlib.Core.Path.{◌≡◌, refl, sym, ap, ap₂, ◌∙◌, subst}
 use mathlib.Core.Bool.{Bool, true, false, ◌&&◌, not, false≢true, and-true}
 use mathlib.Core.List.{List, [], ◌∷◌, map, nil≢cons, cons≢nil, head-eq_of_cons-eq, tail-eq_of_cons-eq}
@@ -9,7 +10,7 @@ use lib.Dec.{eqb}
 use lib.Ieee.{Float}
 use lib.ListN.{length, length-map}
 use borrow.Author.Tests.{eqb-true, eq-eqb}
-use Rattle.laws.specs.Words.{if◌then◌else◌, keep, Every}
+use Rattle.laws.specs.Words.{keep, Every}
 use Rattle.laws.proofs.Lists.{every_map, every_both, every_all, every_keep, every_image, keep_passes, keep_same, keep-map, keep-keep, map-map, map_same, and_l, and_r}
 use Rattle.meter.specs.PlainMeter.{PlainMeter}
 use Rattle.time_clock.specs.declared.Clock.{Clock}

@@ -1,7 +1,7 @@
 -- 01, "Entries": what a search that is not spent gives, said without the walk.
-use Rattle.std.specs.Prelude.{◌≡◌, Bool, true, false, ◌&&◌, ◌||◌, ℕ, zero, suc, ◌+◌, eqb, leb, ltb, length}
+use Rattle.std.specs.Prelude.{◌≡◌, Bool, true, false, ◌&&◌, ◌||◌, ℕ, zero, suc, ◌+◌, eqb, leb, ltb, length, if◌then◌else◌}
 use mathlib.Core.List.{List, [], ◌∷◌, map, drop_last}
-use Rattle.laws.specs.Words.{if◌then◌else◌, keep, Every, same_list, each}
+use Rattle.laws.specs.Words.{keep, Every, same_list, each}
 use Rattle.meter.specs.PlainMeter.{PlainMeter}
 use Rattle.meter.specs.declared.Fault.{Fault}
 use Rattle.meter.specs.declared.Fault.TheVariants.{None, Checksum, Truncated, Busy, WrongAddress, Flaky, TooMany}

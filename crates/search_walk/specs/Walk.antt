@@ -1,7 +1,7 @@
 -- 01, "The search (ours)": the walk over the plain segment.
 -- A prefix is a list of digits, most significant first.
-use Rattle.std.specs.Prelude.{Bool, true, false, ◌&&◌, ◌||◌, List, [], ◌∷◌, ◌++◌, ℕ, zero, suc, ◌+◌, ◌-◌, eqb, leb, length, replicate}
-use Rattle.laws.specs.Words.{if◌then◌else◌, keep}
+use Rattle.std.specs.Prelude.{Bool, true, false, ◌&&◌, ◌||◌, List, [], ◌∷◌, ◌++◌, ℕ, zero, suc, ◌+◌, ◌-◌, eqb, leb, length, replicate, if◌then◌else◌}
+use Rattle.laws.specs.Words.{keep}
 use Rattle.frame.specs.Protocol.{ack_byte, addr_selected, ci_select, ci_variable, ci_fixed}
 use Rattle.frame.specs.Frame.{Telegram, ack, short, long, complete, incomplete, invalid, parse, encode}
 use Rattle.frame.specs.Master.{snd_ud, req_ud2, is_rsp_ud}

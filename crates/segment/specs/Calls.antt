@@ -1,6 +1,5 @@
 -- Opening, receive, clear and baud change: 01's number (0: accepted), what is handed out, and the segment afterwards.
-use Rattle.std.specs.Prelude.{Bool, List, [], ◌++◌, ℕ, min, Float, length, take, drop}
-use Rattle.laws.specs.Words.{if◌then◌else◌}
+use Rattle.std.specs.Prelude.{Bool, List, [], ◌++◌, ℕ, min, Float, length, take, drop, if◌then◌else◌}
 use Rattle.laws.specs.Refusal.{not_refused, refused_baud}
 use Rattle.meter.specs.Meter.{rates}
 use Rattle.list_check.specs.Tables.{is_rate_value}

@@ -1,4 +1,5 @@
 -- How exports are judged; so many bytes are always enough.
+use Rattle.std.specs.Prelude.{if◌then◌else◌}
 use mathlib.Core.Path.{◌≡◌, refl, ap, ◌∙◌}
 use mathlib.Core.Bool.{Bool, true, false, ◌||◌}
 use mathlib.Core.List.{List, [], ◌∷◌, ◌++◌}
@@ -7,7 +8,7 @@ use native.Mathlib.Omega.{arith}
 use lib.Dec.{ltb}
 use lib.ListN.{length, drop}
 use borrow.Author.Tests.{lt-ltb, le-ltb, ltb-true, ltb-false}
-use Rattle.laws.specs.Words.{if◌then◌else◌, Every}
+use Rattle.laws.specs.Words.{Every}
 use Rattle.laws.proofs.Lists.{if_with}
 use Rattle.numbers.specs.Number.{number}
 use Rattle.meter.specs.PlainMeter.{PlainMeter}

@@ -1,6 +1,5 @@
 -- The segment as a list (Req 04): "After address and baud changes, a site wants its segment back as a meter list."
-use Rattle.std.specs.Prelude.{Bool, false, ◌||◌, List, [], ◌∷◌, ◌++◌, map, ℕ, ltb, length, drop}
-use Rattle.laws.specs.Words.{if◌then◌else◌}
+use Rattle.std.specs.Prelude.{Bool, false, ◌||◌, List, [], ◌∷◌, ◌++◌, map, ℕ, ltb, length, drop, if◌then◌else◌}
 use Rattle.laws.specs.Refusal.{not_refused, refused_room, refused_high_primary}
 use Rattle.meter.specs.PlainMeter.{PlainMeter}
 use Rattle.list.specs.Written.{write_list_value}

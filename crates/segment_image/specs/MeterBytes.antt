@@ -1,6 +1,6 @@
 -- A meter as 25 bytes: what any bytes mean, and which bytes a meter has.
-use Rattle.std.specs.Prelude.{Bool, not, List, [], ◌∷◌, ◌++◌, ℕ, eqb, ltb, length, get_or}
-use Rattle.laws.specs.Words.{if◌then◌else◌, bit_if, at}
+use Rattle.std.specs.Prelude.{Bool, not, List, [], ◌∷◌, ◌++◌, ℕ, eqb, ltb, length, get_or, if◌then◌else◌}
+use Rattle.laws.specs.Words.{bit_if, at}
 use Rattle.numbers.specs.Values.{little}
 use Rattle.numbers.specs.Number.{number}
 use Rattle.meter.specs.PlainMeter.{PlainMeter}

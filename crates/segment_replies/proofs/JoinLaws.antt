@@ -1,6 +1,7 @@
 -- How replies join: E5s, and how long the outcome is.
+use Rattle.std.specs.Prelude.{if◌then◌else◌}
 use Rattle.std.proofs.Common.{◌≡◌, ℕ, zero, suc, ◌+◌, ◌≤◌, Bool, true, false, eqb, List, [], ◌∷◌, map, length, refl, ap, zero-le, arith, length-append}
-use Rattle.laws.specs.Words.{if◌then◌else◌, keep, Every}
+use Rattle.laws.specs.Words.{keep, Every}
 use Rattle.laws.proofs.Lists.{and_l, and_r}
 use Rattle.meter_step.specs.Hear.{E5}
 use Rattle.segment_replies.specs.Replies.{is_e5, all_e5, end_to_end, longest, overlaid, places, joined}

@@ -1,9 +1,10 @@
 -- What the program keeps of the replies: none yet, one more, and that all come to `joined`.
+use Rattle.std.specs.Prelude.{if◌then◌else◌}
 use Rattle.std.proofs.Common.{◌≡◌, ℕ, zero, suc, ◌+◌, ◌%◌, ◌^◌, ◌<◌, min, max, Bool, true, false, ◌&&◌, ltb, List, [], ◌∷◌, ◌++◌, length, get_or, take, set, replicate, sym, refl, ap, ◌∙◌, subst, ap₂, append-nil, arith, length-append, length-take, length-take-le, get_or-take, ext_get_or, ltb-false, ltb-true, eqb-true}
 use mathlib.Core.Bool.{and-true}
 use lib.Bits.{bit_and}
 use lib.ListN.{get_or-replicate, length-replicate, get_or-eq_default}
-use Rattle.laws.specs.Words.{if◌then◌else◌, Every, Bytes}
+use Rattle.laws.specs.Words.{Every, Bytes}
 use Rattle.laws.proofs.Lists.{every_append, and_l, and_r, every_take}
 use Rattle.meter_reply.specs.declared.Reply.{Reply}
 use Rattle.meter_step.specs.Hear.{E5}

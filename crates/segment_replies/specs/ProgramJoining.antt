@@ -1,7 +1,7 @@
 -- What the program keeps of the replies that it has joined so far. That it comes to 01's joining is proved
 -- (proofs/JoiningLaws, `joined_is`).
-use Rattle.std.specs.Prelude.{◌≡◌, ℕ, ◌+◌, ◌%◌, ◌^◌, ◌<◌, ◌≤◌, min, max, ◌&&◌, List, length, take, replicate, bit_and, slice_index, slice_index_or, slice_set}
-use Rattle.laws.specs.Words.{if◌then◌else◌, Every, Bytes}
+use Rattle.std.specs.Prelude.{◌≡◌, ℕ, ◌+◌, ◌%◌, ◌^◌, ◌<◌, ◌≤◌, min, max, ◌&&◌, List, length, take, replicate, bit_and, slice_index, slice_index_or, slice_set, if◌then◌else◌}
+use Rattle.laws.specs.Words.{Every, Bytes}
 use Rattle.frame.specs.Protocol.{ack_byte}
 use Rattle.meter_reply.specs.declared.Reply.{Reply}
 use Rattle.segment_replies.specs.declared.Joining.{Joining}

@@ -1,6 +1,5 @@
 -- How the replies to one telegram join (01, "Send, select, receive").
-use Rattle.std.specs.Prelude.{ℕ, zero, suc, max, Bool, true, false, ◌&&◌, List, [], ◌∷◌, ◌++◌, length, ◌==◌, bit_and, slice_index_or}
-use Rattle.laws.specs.Words.{if◌then◌else◌}
+use Rattle.std.specs.Prelude.{ℕ, zero, suc, max, Bool, true, false, ◌&&◌, List, [], ◌∷◌, ◌++◌, length, ◌==◌, bit_and, slice_index_or, if◌then◌else◌}
 use Rattle.frame.specs.Protocol.{ack_byte}
 
 -- ---- "Replies join thus"

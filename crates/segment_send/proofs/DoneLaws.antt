@@ -1,4 +1,5 @@
 -- Send on an image, answer by answer.
+use Rattle.std.specs.Prelude.{if◌then◌else◌}
 use mathlib.Core.Path.{◌≡◌, refl, sym, ap, subst, ◌∙◌}
 use mathlib.Core.Bool.{Bool, true, false}
 use mathlib.Core.List.{List}
@@ -6,7 +7,6 @@ use Prim.Native.Nat.{ℕ, ◌<◌}
 use native.Mathlib.Omega.{arith}
 use borrow.Author.Tests.{lt-ltb, le-ltb, ne_eqb}
 use lib.ListN.{length}
-use Rattle.laws.specs.Words.{if◌then◌else◌}
 use Rattle.segment.specs.Plain.{Plain}
 use Rattle.segment.specs.Calls.{Done, accepted, refused}
 use Rattle.segment_image.specs.Image.{decode_image, Exact}

@@ -1,4 +1,5 @@
 -- The slips to exclude, each as a law: those of a send.
+use Rattle.std.specs.Prelude.{if◌then◌else◌}
 use mathlib.Core.Path.{◌≡◌, refl, ap}
 use mathlib.Core.Bool.{Bool, true, false, not}
 use mathlib.Core.List.{List, [], ◌++◌}
@@ -6,7 +7,6 @@ use Prim.Native.Nat.{ℕ, ◌<◌}
 use native.Mathlib.Omega.{arith}
 use lib.Dec.{ltb}
 use lib.ListN.{length}
-use Rattle.laws.specs.Words.{if◌then◌else◌}
 use Rattle.frame.specs.Frame.{Why, invalid, parse}
 use Rattle.time_clock.specs.declared.Clock.{Clock}
 use Rattle.time_clock.specs.Fields.{good_clock_value}

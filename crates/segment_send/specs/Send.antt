@@ -1,6 +1,5 @@
 -- Send (01, "Send, select, receive"): 01's number (0: accepted), and the segment afterwards.
-use Rattle.std.specs.Prelude.{not, List, ◌++◌, ℕ, eqb, ltb, length}
-use Rattle.laws.specs.Words.{if◌then◌else◌}
+use Rattle.std.specs.Prelude.{not, List, ◌++◌, ℕ, eqb, ltb, length, if◌then◌else◌}
 use Rattle.laws.specs.Refusal.{not_refused, refused_piece, refused_clock, refused_queue}
 use Rattle.frame.specs.Frame.{due, parse}
 use Rattle.time_clock.specs.declared.Clock.{Clock}

@@ -1,4 +1,5 @@
 -- A telegram handled on an image, from what the sweep and the queue came to.
+use Rattle.std.specs.Prelude.{if◌then◌else◌}
 use mathlib.Core.Path.{◌≡◌, refl, sym, ap, ap₂, subst, ◌∙◌}
 use mathlib.Core.Bool.{Bool, true, false}
 use mathlib.Core.List.{List, [], ◌∷◌, ◌++◌, map}
@@ -7,7 +8,6 @@ use native.Mathlib.Omega.{arith}
 use lib.Dec.{eqb}
 use lib.Ieee.{Float}
 use lib.ListN.{length, length-append, length-map}
-use Rattle.laws.specs.Words.{if◌then◌else◌}
 use Rattle.laws.proofs.Lists.{if_all}
 use Rattle.frame.specs.Frame.{Telegram, ack, short, long}
 use Rattle.time_seconds.specs.Seconds.{elapsed_of_value}

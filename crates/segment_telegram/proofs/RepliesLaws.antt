@@ -1,11 +1,12 @@
 -- The replies of those that gave one: of meters by a test, of two lists, and how many.
+use Rattle.std.specs.Prelude.{if◌then◌else◌}
 use mathlib.Core.Path.{◌≡◌, refl, ap, ◌∙◌}
 use mathlib.Core.Bool.{Bool, true, false, cond}
 use mathlib.Core.List.{List, [], ◌∷◌, ◌++◌, map}
 use Prim.Native.Nat.{ℕ, suc, ◌≤◌}
 use native.Mathlib.Omega.{arith}
 use lib.ListN.{length}
-use Rattle.laws.specs.Words.{if◌then◌else◌, keep, Every}
+use Rattle.laws.specs.Words.{keep, Every}
 use Rattle.meter.specs.PlainMeter.{PlainMeter}
 use Rattle.meter_step.specs.Hear.{Reply, silence, says, Heard}
 use Rattle.segment_telegram.specs.Handled.{with_reply, replies}

@@ -1,6 +1,5 @@
 -- What one telegram does to the segment (01, "Send, select, receive").
-use Rattle.std.specs.Prelude.{Bool, false, List, [], ◌∷◌, ◌++◌, map, ℕ, eqb}
-use Rattle.laws.specs.Words.{if◌then◌else◌}
+use Rattle.std.specs.Prelude.{Bool, false, List, [], ◌∷◌, ◌++◌, map, ℕ, eqb, if◌then◌else◌}
 use Rattle.frame.specs.Protocol.{addr_broadcast}
 use Rattle.frame.specs.Frame.{Telegram, ack, short, long}
 use Rattle.time_seconds.specs.Seconds.{elapsed_of_value}

@@ -1,4 +1,5 @@
 -- The fresh meter of a record that passes is sound.
+use Rattle.std.specs.Prelude.{if◌then◌else◌}
 use mathlib.Core.Path.{◌≡◌, refl, sym, ap, ◌∙◌}
 use mathlib.Core.Bool.{Bool, true, false, ◌&&◌, ◌||◌, not}
 use mathlib.Core.List.{List, [], ◌∷◌}
@@ -7,7 +8,7 @@ use native.Mathlib.Omega.{arith}
 use lib.Dec.{eqb, ltb}
 use borrow.Author.Tests.{eqb-true}
 use lib.ListN.{length}
-use Rattle.laws.specs.Words.{if◌then◌else◌, same_list}
+use Rattle.laws.specs.Words.{same_list}
 use Rattle.laws.proofs.Lists.{if_all, and_l, and_r}
 use Rattle.meter_identity.specs.Identity.{manufacturer_code_value}
 use Rattle.meter.specs.PlainMeter.{PlainMeter}

@@ -1,4 +1,5 @@
 -- An accepted opening gives a sound segment: the list's bytes are bytes, so every version is one.
+use Rattle.std.specs.Prelude.{if◌then◌else◌}
 use mathlib.Core.Path.{◌≡◌, refl, subst}
 use mathlib.Core.Bool.{Bool, true, false, ◌&&◌, ◌||◌, not}
 use mathlib.Core.List.{List, [], ◌∷◌, map}
@@ -8,7 +9,7 @@ use lib.Dec.{eqb, leb, ltb}
 use lib.Ieee.{Float}
 use borrow.Author.Tests.{eqb-true, ltb-false}
 use lib.ListN.{length, take, drop, length-map}
-use Rattle.laws.specs.Words.{if◌then◌else◌, at, Every, Bytes}
+use Rattle.laws.specs.Words.{at, Every, Bytes}
 use Rattle.laws.proofs.Lists.{if_all, every_take, and_l, and_r}
 use Rattle.frame.proofs.Worked.{of_nothing}
 use Rattle.meter.specs.PlainMeter.{PlainMeter}

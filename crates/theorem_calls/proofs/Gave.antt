@@ -1,5 +1,6 @@
 -- What the contract of a call says, of the bytes of the image before and after it; and what follows of 01's answer
 -- and segment.
+use Rattle.std.specs.Prelude.{if◌then◌else◌}
 use mathlib.Core.Path.{◌≡◌, refl, sym, ap, subst, ◌∙◌}
 use mathlib.Core.Bool.{Bool, true, false}
 use mathlib.Core.List.{List}
@@ -12,7 +13,6 @@ use borrow.Author.Tests.{eqb-true, eqb-false}
 use mir.Syntax.{w32, w64}
 use mir.Val.{Val, vint, vunit}
 use prog.Memory.{Memory}
-use Rattle.laws.specs.Words.{if◌then◌else◌}
 use Rattle.time_clock.specs.declared.Clock.{Clock}
 use Rattle.segment.specs.Plain.{Plain}
 use Rattle.segment.specs.Calls as plain

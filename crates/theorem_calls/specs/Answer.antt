@@ -1,6 +1,6 @@
 -- What the calls hand back, beside the segment.
-use Rattle.std.specs.Prelude.{◌≡◌, Bool, List, ◌++◌, ℕ, ◌*◌, eqb, take, drop}
-use Rattle.laws.specs.Words.{if◌then◌else◌, each}
+use Rattle.std.specs.Prelude.{◌≡◌, Bool, List, ◌++◌, ℕ, ◌*◌, eqb, take, drop, if◌then◌else◌}
+use Rattle.laws.specs.Words.{each}
 use Rattle.list_open.specs.Opening.{number_in, index_in, open_list_value}
 use Rattle.segment.specs.Plain.{Plain}
 use Rattle.segment.specs.Calls.{receive, change_baud}

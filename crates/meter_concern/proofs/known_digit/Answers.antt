@@ -1,7 +1,7 @@
+use Rattle.std.specs.Prelude.{if◌then◌else◌}
 use mathlib.Core.Path.{sym, ap}
 use native.Mathlib.Omega.{arith}
 use borrow.Author.Tests.{eq-eqb, ne_eqb}
-use Rattle.laws.specs.Words.{if◌then◌else◌}
 use Rattle.meter_concern.proofs.known_digit.Goals as goal
 
 pub returns-then-d-eq15 : goal.returns-then-d-eq15
