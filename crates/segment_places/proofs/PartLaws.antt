@@ -1,12 +1,12 @@
 -- An image by its parts, and bytes put over one of them.
 use mathlib.Core.Path.{◌≡◌, refl, sym, ap, ap₂, ◌∙◌}
 use mathlib.Core.List.{List, ◌++◌, append_assoc}
-use Prim.Native.Nat.{ℕ, zero, suc, ◌+◌, ◌-◌, ◌*◌, ◌≤◌, min}
+use Prim.Native.Nat.{ℕ, zero, suc, ◌+◌, ◌*◌, ◌≤◌, min}
 use native.Mathlib.Omega.{arith}
 use lib.Ieee.{binary64, to_bits, of_bits}
-use lib.ListN.{length, take, drop, length-take, length-drop, take-append-drop}
+use lib.ListN.{length, take, drop, length-drop, take-append-drop}
 use lib.Seq.{paste, take-append-le, drop-append-le, take_all, take_at, drop_at, drop-drop, get_or-drop, length-take-le}
-use Rattle.laws.specs.Words.{each, at}
+use Rattle.laws.specs.Words.{each}
 use Rattle.numbers.specs.Values.{little}
 use Rattle.segment_image.specs.MeterBytes.{encode_meter}
 use Rattle.list_open.specs.Opening.{capacity}

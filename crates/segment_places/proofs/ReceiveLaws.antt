@@ -4,7 +4,7 @@ use mathlib.Core.List.{List, [], ◌++◌, append_assoc}
 use Prim.Native.Nat.{ℕ, ◌+◌, ◌-◌, ◌≤◌, min}
 use native.Mathlib.Nat.{zero-add}
 use native.Mathlib.Omega.{arith}
-use lib.ListN.{length, take, drop, replicate, length-drop, length-replicate, replicate-append-replicate}
+use lib.ListN.{length, take, drop, length-drop, length-replicate, replicate-append-replicate}
 use lib.Seq.{paste, length-paste, take-paste, drop-paste, take_all, take_at, drop_at, drop-drop, drop-append-le, take-append-le, take-take, take-length}
 use Rattle.numbers.specs.Values.{little}
 use Rattle.laws.proofs.Copying.{drop-take}

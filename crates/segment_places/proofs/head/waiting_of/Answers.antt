@@ -1,0 +1,10 @@
+use borrow.Author.Rules.{rules}
+use mathlib.Core.Path.{sym, ap, ◌∙◌}
+use Prim.Native.Nat.{min}
+use Rattle.segment_places.proofs.PlaceLaws.{input_count}
+use Rattle.segment_places.proofs.head.waiting_of.Goals as goal
+
+pub returns : goal.returns
+returns c =
+    let l = c.args.image.now in
+    c.least.ensures ∙ ap (λ n. min n 260) c.two_at.ensures ∙ sym (input_count l (search rules))
