@@ -1,8 +1,8 @@
+use Rattle.std.specs.Prelude.{if◌then◌else◌}
 use mathlib.Core.Path.{◌≡◌, sym, ap, subst}
 use native.Mathlib.Omega.{arith}
 use lib.ListN.{length, take, replicate}
 use lib.Seq.{length-take-le}
-use Rattle.laws.specs.Words.{if◌then◌else◌}
 use Rattle.segment_places.specs.ProgramBecomes.{Queues}
 use borrow.Author.Rules.{rules}
 use Rattle.segment_telegram.proofs.queue_reply.Statement.{statement}
