@@ -1,4 +1,4 @@
-// Links the static library that `rt staticlib jezynar` writes. Its folder is JEZYNAR_LIB; where that is not set, the
+// Links the static library that `./archive` writes. Its folder is JEZYNAR_LIB; where that is not set, the
 // nearest target/staticlib in the folders above this crate that has it.
 use std::env;
 use std::path::PathBuf;
@@ -24,7 +24,7 @@ fn main() {
         println!("cargo:rerun-if-changed={}", folder.join(ARCHIVE).display());
         return;
     }
-    println!("cargo:warning={ARCHIVE} is not {looked}: run `rt staticlib jezynar`, or set JEZYNAR_LIB to its folder");
+    println!("cargo:warning={ARCHIVE} is not {looked}: run `./archive`, or set JEZYNAR_LIB to its folder");
     // So that the script runs again, and finds an archive that was written meanwhile.
     for folder in &places {
         println!("cargo:rerun-if-changed={}", folder.join(ARCHIVE).display());

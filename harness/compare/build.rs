@@ -1,4 +1,4 @@
-// Links the static library that `rt staticlib jezynar` wrote; JEZYNAR_LIB is the folder that holds it.
+// Links the static library that `./archive` wrote; JEZYNAR_LIB is the folder that holds it.
 fn main() {
     let dir = std::env::var("JEZYNAR_LIB").expect("JEZYNAR_LIB: the folder of libjezynar.a");
     println!("cargo:rustc-link-search=native={dir}");

@@ -1,4 +1,4 @@
-// Links the static libraries that `rt staticlib jezynar` and `rt staticlib test_bcd` wrote; JEZYNAR_LIB is the folder that holds them.
+// Links the static libraries that `./archive` and `./archive test_bcd` wrote; JEZYNAR_LIB is the folder that holds them.
 fn main() {
     let dir = std::env::var("JEZYNAR_LIB").expect("JEZYNAR_LIB: the folder of libjezynar.a and libtest_bcd.a");
     println!("cargo:rustc-link-search=native={dir}");
