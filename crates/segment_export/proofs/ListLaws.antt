@@ -1,15 +1,15 @@
 -- The whole list, from its records; and what an export comes to.
 use mathlib.Core.Path.{◌≡◌, refl, sym, ap, ◌∙◌}
 use mathlib.Core.Bool.{true, false}
-use mathlib.Core.List.{List, [], ◌∷◌, ◌++◌, append_assoc}
-use Prim.Native.Nat.{ℕ, suc, ◌+◌, ◌/◌, ◌%◌, ◌≤◌, ◌<◌}
+use mathlib.Core.List.{List, [], ◌∷◌, ◌++◌}
+use Prim.Native.Nat.{ℕ, ◌+◌, ◌/◌, ◌%◌, ◌≤◌, ◌<◌}
 use native.Mathlib.Omega.{arith}
-use lib.ListN.{length, take, drop, length-append}
-use lib.Seq.{paste, take-length, drop-drop}
+use lib.ListN.{length, take, drop}
+use lib.Seq.{paste, take-length, take_all, drop-drop}
 use borrow.Author.Tests.{lt-ltb, le-ltb}
 use Rattle.list.specs.Written.{write_list_value}
 use Rattle.segment.specs.Plain.{Plain}
-use Rattle.segment_export.specs.Export.{list_of, any_above250, export_refused, export_into_value}
+use Rattle.segment_export.specs.Export.{list_of, any_above250, export_into_value}
 use Rattle.segment_export.specs.ProgramExport.{records_of_value, RecordsWritten}
 use Rattle.segment_export.specs.View.{exported_by}
 
@@ -25,12 +25,14 @@ pub list_long : (s : Plain) → length (list_of s) ≡ 3 + length (records_of_va
 list_long s = ap length (sym (list_whole s)) ∙ omega arith
 
 -- three bytes, and the records behind them
-pub list_written : (head records lent mid new : List ℕ) → head ≡ 1 ∷ length records / 256 ∷ length records % 256 ∷ [] → mid ≡ take (length head) head ++ drop (length head) lent → new ≡ paste mid 3 records (length records) → new ≡ whole records ++ drop (3 + length records) lent
-list_written head records lent mid new h m e =
+pub list_written : (head records lent mid new : List ℕ) → 3 ≤ length lent → head ≡ 1 ∷ length records / 256 ∷ length records % 256 ∷ [] → mid ≡ take (length lent) head ++ drop (length head) lent → new ≡ paste mid 3 records (length records) → new ≡ whole records ++ drop (3 + length records) lent
+list_written head records lent mid new fits h m e =
     let n = length records in
     let three : List ℕ = 1 ∷ n / 256 ∷ n % 256 ∷ [] in
     let both : List ℕ = 1 ∷ n / 256 ∷ n % 256 ∷ drop 3 lent in
-    let front : mid ≡ both = m ∙ ap (λ (x : List ℕ). take (length x) x ++ drop (length x) lent) h in
+    let long : length head ≡ 3 = ap length h in
+    let kept : take (length lent) head ≡ head = take_all (length lent) head (omega (arith, long, fits)) in
+    let front : mid ≡ both = m ∙ ap (λ (x : List ℕ). x ++ drop (length head) lent) kept ∙ ap (λ (x : List ℕ). x ++ drop (length x) lent) h in
     e
     ∙ ap (λ (x : List ℕ). paste x 3 records n) front
     ∙ ap (λ (x : List ℕ). three ++ take n records ++ x) (sym (drop-drop n 3 both) ∙ drop-drop n 3 lent)

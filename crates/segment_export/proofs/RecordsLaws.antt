@@ -13,7 +13,7 @@ use Rattle.list.specs.Layout.{Listed}
 use Rattle.list.specs.Written.{write_rest, write_records_value}
 use Rattle.list_open.specs.Opening.{most_meters}
 use Rattle.list_write.specs.Record.{record_for}
-use Rattle.list_write.specs.ProgramRecord.{counted, Puts, IsRest, record_bytes, Appends, room, none}
+use Rattle.list_write.specs.ProgramRecord.{counted, IsRest, record_bytes, Appends, room, none}
 use Rattle.list_write.specs.declared.Rest.{Rest}
 use Rattle.segment.specs.Plain.{Plain}
 use Rattle.segment_image.specs.Image.{decode_image}

@@ -3,7 +3,7 @@ use Rattle.std.specs.Prelude.{if◌then◌else◌}
 use mathlib.Core.Path.{◌≡◌, refl, ap, ◌∙◌}
 use mathlib.Core.Bool.{Bool, true, false, ◌||◌}
 use mathlib.Core.List.{List, [], ◌∷◌, ◌++◌}
-use Prim.Native.Nat.{ℕ, zero, suc, ◌+◌, ◌*◌, ◌≤◌, ◌<◌, min}
+use Prim.Native.Nat.{ℕ, zero, suc, ◌≤◌, ◌<◌, min}
 use native.Mathlib.Omega.{arith}
 use lib.Dec.{ltb}
 use lib.ListN.{length, drop}
@@ -15,7 +15,6 @@ use Rattle.meter.specs.PlainMeter.{PlainMeter}
 use Rattle.meter_identity.specs.Identity.{digits_of_value}
 use Rattle.list_open.specs.Opening.{capacity}
 use Rattle.list_write.proofs.LengthLaws.{records_short}
-use Rattle.segment.specs.Plain.{Plain}
 use Rattle.segment_image.specs.MeterBytes.{decode_meter}
 use Rattle.segment_image.specs.Image.{meters, decode_image}
 use Rattle.segment_places.proofs.PlaceLaws.{meters_count}
