@@ -1,6 +1,6 @@
 /* The simulated M-Bus segment: the entry points of the static library.
  *
- * libjezynar.a is for x86-64 Linux; `rt staticlib jezynar` proves it and writes it to target/staticlib/.
+ * libjezynar.a is for x86-64 Linux; `./archive` proves it and writes it to target/staticlib/.
  *
  * A segment is an image, JEZYNAR_IMAGE_LEN bytes that the caller keeps between the calls; the library has no state of
  * its own. The first call on new memory is jezynar_segment_new. (Any bytes are an image; but a first opening that is

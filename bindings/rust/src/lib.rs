@@ -5,7 +5,7 @@
 //! by itself: time comes with each call as a [`Clock`]. No call panics, and a refused call changes nothing: neither the
 //! segment nor what was lent. A thread with 64 KiB of stack is enough for every call.
 //!
-//! To build, `rt staticlib jezynar` writes `libjezynar.a` to `target/staticlib` of the repository, where this crate
+//! To build, `./archive` writes `libjezynar.a` to `target/staticlib` of the repository, where this crate
 //! finds it; or `JEZYNAR_LIB` names another folder that holds it.
 //!
 //! # Example
