@@ -20,7 +20,7 @@ use Rattle.meter_step.specs.Hear.{Heard, quiet, hear}
 use Rattle.meter_concern.specs.ProgramConcern.{concerns_by}
 use Rattle.meter_concern.specs.declared.Seeking.{Seeking}
 use Rattle.meter_concern.specs.ProgramSeeking.{Seeks}
-use Rattle.segment.specs.Plain.{Plain, with_meters}
+use Rattle.segment.specs.Plain.{with_meters}
 use Rattle.segment_replies.specs.declared.Joining.{Joining}
 use Rattle.segment_replies.specs.ProgramJoining.{reply_most, Joins}
 use Rattle.segment_replies.proofs.JoiningLaws.{joins_none}
