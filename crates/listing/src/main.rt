@@ -1,10 +1,9 @@
 // Reads a meter list from standard input, at most 65,536 bytes, and writes what a search of its meters finds.
 #![tactic(auto)]
 
-ghost use Rattle.std.specs.Prelude.{◌+◌, ◌≤◌, length};
-ghost use Rattle.io.specs.Counts.{IsPrefixLen};
+ghost use Rattle.std.specs.Prelude.{◌≡◌, ◌+◌, ◌≤◌, length, take};
 
-use libc::{STDERR_FILENO, STDIN_FILENO, STDOUT_FILENO};
+use std::io::Read;
 
 // Bytes that were read, and whether reading failed.
 #[derive(Clone, Copy)]
@@ -14,25 +13,30 @@ struct Input {
 }
 
 // One reading, into the bytes from a place on.
-fn read_part(list: &mut [u8], from: usize) -> Input
+fn read_part<R: Read>(reader: &mut R, list: &mut [u8], from: usize) -> Input
     requires { from ≤ length list.old }
     ensures { from + result.count ≤ length list.new }
 {
-    let part = &mut list[from..];
-    let got = libc::read(STDIN_FILENO, part);
-    Input {
-        count: io::count(got, part),
-        failed: got < 0,
+    match reader.read(&mut list[from..]) {
+        Ok(count) => Input {
+            count,
+            failed: false,
+        },
+        Err(_) => Input {
+            count: 0,
+            failed: true,
+        },
     }
 }
 
 // Until the bytes are full, the input ends or a reading fails.
-fn read_list(list: &mut [u8]) -> Input
-    ensures { IsPrefixLen result.count list.new }
+fn read_list<R: Read>(reader: &mut R, list: &mut [u8]) -> Input
+    ensures within { result.count ≤ length list.new }
+    ensures part { result.count ≡ length (take result.count list.new) }
 {
     let mut count: usize = 0;
     while count < list.len() {
-        let part = read_part(list, count);
+        let part = read_part(reader, list, count);
         if part.count == 0 {
             return Input {
                 count,
@@ -47,21 +51,25 @@ fn read_list(list: &mut [u8]) -> Input
     }
 }
 
-fn main() {
-    let mut buffer = io::large_buffer();
-    let input = read_list(&mut buffer);
+// 65,536 zeros: more of the input is not read.
+fn large_buffer() -> [u8; 65536]
+    ensures { 65536 ≡ length result }
+{
+    [0u8; 65536]
+}
+
+// Where reading or writing fails a line on standard error says so, and the status is 0 all the same.
+fn main(rt: HostRuntime) {
+    let mut buffer = large_buffer();
+    let input = read_list(&mut rt.stdin(), &mut buffer);
     if input.failed {
-        io::write_all(STDERR_FILENO, b"listing: standard input cannot be read\n");
+        let _ = eprintln!(rt; "listing: standard input cannot be read");
         return;
     }
     let count = input.count;
     let mut out = [0u8; listing_text::TEXT];
     let len = listing_text::listing(&buffer[..count], &mut out);
-    let written = io::write_all(STDOUT_FILENO, &out[..len]);
-    if !written {
-        io::write_all(
-            STDERR_FILENO,
-            b"listing: standard output cannot be written\n",
-        );
+    if rt.write_all(&out[..len]).is_err() {
+        let _ = eprintln!(rt; "listing: standard output cannot be written");
     }
 }

@@ -3,12 +3,14 @@
 // The run ends at the script's end, at a byte that names no command, and at a command that is cut off.
 #![tactic(auto)]
 
-use libc::STDIN_FILENO;
 use segment::Segment;
 use segment_image::IMAGE;
+use std::alloc::AllocError;
+use std::io;
 use time_clock::Clock;
 
 mod calls; // calls.rt: each call, and its line of text
+mod input; // input.rt: reading the script
 mod print; // print.rt: numbers and bytes as text
 mod script; // script.rt: the commands' bytes
 mod show; // show.rt: a segment's parts and the entries of a search as text
@@ -38,31 +40,42 @@ fn clock_of(arguments: &[u8]) -> Clock {
 }
 
 // A command other than that for the clock.
-fn call(image: &mut [u8; IMAGE], clock: Clock, name: u8, arguments: &[u8]) {
+fn call(
+    out: &mut String,
+    image: &mut [u8; IMAGE],
+    clock: Clock,
+    name: u8,
+    arguments: &[u8],
+) -> Result<(), AllocError> {
     match name {
-        script::OPEN => calls::open_list(image, arguments),
-        script::BUILTIN => calls::open_builtin(image, arguments),
-        script::SEND => calls::send(image, clock, arguments),
-        script::RECEIVE => calls::receive(image, arguments),
-        script::CLEAR => calls::clear(image),
-        script::BAUD => calls::set_baud(image, arguments),
-        script::SEARCH => calls::find(image, clock, arguments),
-        script::EXPORT => calls::export(image, arguments),
-        script::STATE => show::state(segment_image::read_image(image)),
-        script::SHORT => show::short_state(segment_image::read_image(image)),
-        _ => {}
+        script::OPEN => calls::open_list(out, image, arguments),
+        script::BUILTIN => calls::open_builtin(out, image, arguments),
+        script::SEND => calls::send(out, image, clock, arguments),
+        script::RECEIVE => calls::receive(out, image, arguments),
+        script::CLEAR => calls::clear(out, image),
+        script::BAUD => calls::set_baud(out, image, arguments),
+        script::SEARCH => calls::find(out, image, clock, arguments),
+        script::EXPORT => calls::export(out, image, arguments),
+        script::STATE => show::state(out, segment_image::read_image(image)),
+        script::SHORT => show::short_state(out, segment_image::read_image(image)),
+        _ => Ok(()),
     }
 }
 
 // One command; the clock for the next one comes back.
-fn step(image: &mut [u8; IMAGE], clock: Clock, command: &[u8]) -> Clock {
+fn step(
+    out: &mut String,
+    image: &mut [u8; IMAGE],
+    clock: Clock,
+    command: &[u8],
+) -> Result<Clock, AllocError> {
     let name = script::byte(command);
     let arguments = script::rest(command, 1);
     if name == script::CLOCK {
-        return clock_of(arguments);
+        return Ok(clock_of(arguments));
     }
-    call(image, clock, name, arguments);
-    clock
+    call(out, image, clock, name, arguments)?;
+    Ok(clock)
 }
 
 fn no_image() -> [u8; IMAGE] {
@@ -70,7 +83,7 @@ fn no_image() -> [u8; IMAGE] {
 }
 
 // The commands, one after the other, from a segment of no meters on.
-fn replay(commands: &[u8]) {
+fn replay(out: &mut String, commands: &[u8]) -> Result<(), AllocError> {
     let mut image = no_image();
     segment_image::write_image(Segment::new(), &mut image);
     let mut clock = noon();
@@ -79,15 +92,18 @@ fn replay(commands: &[u8]) {
         let rest = &commands[at..];
         let used = script::used(rest);
         if used == 0 {
-            return;
+            return Ok(());
         }
-        clock = step(&mut image, clock, &rest[0..used]);
+        clock = step(out, &mut image, clock, &rest[0..used])?;
         at += used;
     }
+    Ok(())
 }
 
-fn main() {
-    let mut buffer = io::large_buffer();
-    let count = io::read_full(STDIN_FILENO, &mut buffer);
-    replay(&buffer[..count]);
+fn main(rt: HostRuntime) -> io::Result<()> {
+    let mut buffer = input::large_buffer();
+    let count = input::read_full(&mut rt.stdin(), &mut buffer);
+    let mut out = String::new(rt.alloc());
+    replay(&mut out, &buffer[..count])?;
+    rt.print(&out)
 }

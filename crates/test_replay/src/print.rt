@@ -1,30 +1,30 @@
-// Numbers and bytes as text, on standard output.
-use libc::STDOUT_FILENO;
+// Numbers and bytes as text, behind what is written already.
+use std::alloc::AllocError;
 
-pub(crate) fn text(s: &[u8]) {
-    io::write_all(STDOUT_FILENO, s);
+pub(crate) fn text(out: &mut String, s: &str) -> Result<(), AllocError> {
+    out.push_str(s)
 }
 
-pub(crate) fn blank() {
-    text(b" ");
+pub(crate) fn blank(out: &mut String) -> Result<(), AllocError> {
+    text(out, " ")
 }
 
-pub(crate) fn line() {
-    text(b"\n");
+pub(crate) fn line(out: &mut String) -> Result<(), AllocError> {
+    text(out, "\n")
 }
 
-pub(crate) fn decimal(n: u64) {
-    io::print_decimal(STDOUT_FILENO, n);
+pub(crate) fn decimal(out: &mut String, n: u64) -> Result<(), AllocError> {
+    write!(out, "{n}")
 }
 
 // A decimal number behind a blank.
-pub(crate) fn next(n: u64) {
-    blank();
-    decimal(n);
+pub(crate) fn next(out: &mut String, n: u64) -> Result<(), AllocError> {
+    blank(out)?;
+    decimal(out, n)
 }
 
-pub(crate) fn hex(n: u64, width: usize) {
-    io::print_hex(STDOUT_FILENO, n, width);
+pub(crate) fn hex(out: &mut String, n: u64, width: usize) -> Result<(), AllocError> {
+    write!(out, "{n:0width$x}")
 }
 
 pub(crate) fn wide(x: usize) -> u64 {
@@ -48,10 +48,9 @@ pub(crate) fn bit(yes: bool) -> u64 {
 }
 
 // Each byte in so many hexadecimal digits.
-pub(crate) fn bytes(s: &[u8], width: usize) {
-    let mut i: usize = 0;
-    while i < s.len() {
-        hex(wide8(s[i]), width);
-        i += 1;
+pub(crate) fn bytes(out: &mut String, s: &[u8], width: usize) -> Result<(), AllocError> {
+    for b in s {
+        hex(out, wide8(*b), width)?;
     }
+    Ok(())
 }

@@ -6,6 +6,7 @@ use laws::least;
 use meter::{Fault, LastFcb, Meter, Model};
 use search::{Entries, EntryRecord, Kind};
 use segment::Segment;
+use std::alloc::AllocError;
 
 fn model_number(model: Model) -> u64 {
     match model {
@@ -37,66 +38,64 @@ fn last_number(last: LastFcb) -> u64 {
 }
 
 // The first seven numbers of a meter's line.
-fn kind(m: Meter) {
+fn kind(out: &mut String, m: Meter) -> Result<(), AllocError> {
     let built = m.built;
     let model = built.model;
     let fault = built.fault;
-    print::decimal(print::wide8(m.state.primary));
-    print::blank();
-    print::hex(print::wide32(built.id), 8);
-    print::next(print::wide16(built.manufacturer));
-    print::next(print::wide8(built.version));
-    print::next(print::wide8(built.medium));
-    print::next(model_number(model));
-    print::next(fault_number(fault));
+    print::decimal(out, print::wide8(m.state.primary))?;
+    print::blank(out)?;
+    print::hex(out, print::wide32(built.id), 8)?;
+    print::next(out, print::wide16(built.manufacturer))?;
+    print::next(out, print::wide8(built.version))?;
+    print::next(out, print::wide8(built.medium))?;
+    print::next(out, model_number(model))?;
+    print::next(out, fault_number(fault))
 }
 
 // The other eight.
-fn condition(m: Meter) {
+fn condition(out: &mut String, m: Meter) -> Result<(), AllocError> {
     let state = m.state;
     let last = state.last;
-    print::next(print::wide8(state.access));
-    print::next(print::wide32(state.baud));
-    print::next(print::bit(state.selected));
-    print::next(print::wide8(state.part));
-    print::next(last_number(last));
-    print::next(print::wide8(state.readouts));
-    print::next(print::wide32(m.built.seed));
-    print::next(print::bit(state.hearing));
+    print::next(out, print::wide8(state.access))?;
+    print::next(out, print::wide32(state.baud))?;
+    print::next(out, print::bit(state.selected))?;
+    print::next(out, print::wide8(state.part))?;
+    print::next(out, last_number(last))?;
+    print::next(out, print::wide8(state.readouts))?;
+    print::next(out, print::wide32(m.built.seed))?;
+    print::next(out, print::bit(state.hearing))
 }
 
-fn meter(m: Meter) {
-    kind(m);
-    condition(m);
-    print::line();
+fn meter(out: &mut String, m: Meter) -> Result<(), AllocError> {
+    kind(out, m)?;
+    condition(out, m)?;
+    print::line(out)
 }
 
 // A line for each meter.
-fn meters(segment: Segment) {
+fn meters(out: &mut String, segment: Segment) -> Result<(), AllocError> {
     let end = least(segment.count, segment::METERS);
-    let mut i: usize = 0;
-    while i < end {
-        let m = segment.meters[i];
-        meter(m);
-        i += 1;
+    for i in 0..end {
+        meter(out, segment.meters[i])?;
     }
+    Ok(())
 }
 
 // Baud, origin, waiting input, queue and number of meters; then the meters.
-pub(crate) fn state(segment: Segment) {
+pub(crate) fn state(out: &mut String, segment: Segment) -> Result<(), AllocError> {
     let input = segment.input;
     let queue = segment.queue;
-    print::text(b"state");
-    print::next(print::wide32(segment.baud));
-    print::blank();
-    print::hex(time_seconds::f64_bits(segment.origin), 16);
-    print::blank();
-    print::bytes(script::first(&input, segment.waiting), 2);
-    print::blank();
-    print::bytes(script::first(&queue, segment.queued), 2);
-    print::next(print::wide(segment.count));
-    print::line();
-    meters(segment);
+    print::text(out, "state")?;
+    print::next(out, print::wide32(segment.baud))?;
+    print::blank(out)?;
+    print::hex(out, time_seconds::f64_bits(segment.origin), 16)?;
+    print::blank(out)?;
+    print::bytes(out, script::first(&input, segment.waiting), 2)?;
+    print::blank(out)?;
+    print::bytes(out, script::first(&queue, segment.queued), 2)?;
+    print::next(out, print::wide(segment.count))?;
+    print::line(out)?;
+    meters(out, segment)
 }
 
 fn one_if(yes: bool) -> usize
@@ -109,25 +108,23 @@ fn one_if(yes: bool) -> usize
 fn listening(segment: Segment) -> usize {
     let end = least(segment.count, segment::METERS);
     let mut n: usize = 0;
-    let mut i: usize = 0;
-    while i < end {
+    for i in 0..end {
         let m = segment.meters[i];
         n += one_if(m.state.baud == segment.baud);
-        i += 1;
     }
     n
 }
 
 // Baud, waiting input, how much is queued, and how many meters listen.
-pub(crate) fn short_state(segment: Segment) {
+pub(crate) fn short_state(out: &mut String, segment: Segment) -> Result<(), AllocError> {
     let input = segment.input;
-    print::text(b"short");
-    print::next(print::wide32(segment.baud));
-    print::blank();
-    print::bytes(script::first(&input, segment.waiting), 2);
-    print::next(print::wide(segment.queued));
-    print::next(print::wide(listening(segment)));
-    print::line();
+    print::text(out, "short")?;
+    print::next(out, print::wide32(segment.baud))?;
+    print::blank(out)?;
+    print::bytes(out, script::first(&input, segment.waiting), 2)?;
+    print::next(out, print::wide(segment.queued))?;
+    print::next(out, print::wide(listening(segment)))?;
+    print::line(out)
 }
 
 fn kind_number(kind: Kind) -> u64 {
@@ -139,23 +136,21 @@ fn kind_number(kind: Kind) -> u64 {
 }
 
 // Kind, digits and count.
-fn entry(e: EntryRecord) {
+fn entry(out: &mut String, e: EntryRecord) -> Result<(), AllocError> {
     let kind = e.kind;
     let digits = e.digits;
-    print::decimal(kind_number(kind));
-    print::blank();
-    print::bytes(&digits, 1);
-    print::next(print::wide32(e.count));
-    print::line();
+    print::decimal(out, kind_number(kind))?;
+    print::blank(out)?;
+    print::bytes(out, &digits, 1)?;
+    print::next(out, print::wide32(e.count))?;
+    print::line(out)
 }
 
 // A line for each entry.
-pub(crate) fn entries(found: Entries) {
+pub(crate) fn entries(out: &mut String, found: Entries) -> Result<(), AllocError> {
     let end = least(found.count, segment::METERS);
-    let mut i: usize = 0;
-    while i < end {
-        let e = found.entries[i];
-        entry(e);
-        i += 1;
+    for i in 0..end {
+        entry(out, found.entries[i])?;
     }
+    Ok(())
 }
