@@ -17,8 +17,4 @@ pub mod PackStart
 pub mod MadeLaws
 pub mod SearchCoreLaws
 pub mod Filled
-mod SearchCalls
-mod LentPart
 pub mod ListedLaws
-mod ListedCalls
-pub mod CodePieces

@@ -21,7 +21,7 @@ use Rattle.meter_step.proofs.HearLaws.{hear-select}
 use Rattle.list_open.specs.Opening.{capacity}
 use Rattle.time_clock.specs.Fields.{good_clock_value}
 use Rattle.segment_send.proofs.SendLaws.{at_rest_value}
-use Rattle.search_walk.specs.Walk.{mask, probe}
+use Rattle.search_walk.specs.Walk.{probe}
 use Rattle.search_walk.specs.Entries.{begins}
 use Rattle.search_walk.proofs.Model.{Prefix}
 use Rattle.search_walk.proofs.MaskLaws.{mask_data, mask_is, mask-matches}

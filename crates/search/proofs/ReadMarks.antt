@@ -14,7 +14,7 @@ use Rattle.meter.specs.declared.Fault.{Fault}
 use Rattle.meter.specs.declared.Fault.TheVariants.{None, Checksum, Truncated, Busy, WrongAddress, Flaky, TooMany}
 use Rattle.meter.specs.Meter.{flaky, hears, offered}
 use Rattle.meter_request.specs.Asking.{asked, readouts_now_value}
-use Rattle.meter_step.specs.Hear.{Heard, answers, request}
+use Rattle.meter_step.specs.Hear.{Heard, request}
 use Rattle.search_packed.specs.ProgramMarks.{yes_of, hears_of_value, readouts_in, read_mark_value}
 use Rattle.search.specs.ProgramPacking.{on, stand, as_marked}
 use Rattle.search.proofs.BitLaws.{turned, bit_on, bit_is, bit_small, bit_of}

@@ -1,0 +1,10 @@
+use Rattle.list_open.specs.Opening.{capacity}
+use Rattle.search.proofs.MadeLaws.{walks}
+use Rattle.search.proofs.walk_packed.Goals as goal
+
+pub returns : goal.returns
+unfolding capacity
+returns c =
+    let a = c.args in
+    walks a.image.now _ a.allowance c.walk_all-w.result _ _ _ _ c.keys_of-keys.ensures c.marks_of-marks.ensures.0 c.marks_of-marks.ensures.1 c.walk_all-w.ensures
+    c.unmark_all.ensures c.records_of-records.ensures c.least.ensures
