@@ -4,22 +4,17 @@ use mathlib.Core.Path.{◌≡◌, sym, ◌∙◌}
 use Prim.Native.Nat.{◌/◌, ◌%◌}
 use Rattle.list_check.specs.Refusals.{refusal_number_value, refusal_index_value}
 use Rattle.jezynar.proofs.ImageLaws.{opening_index, number_small}
-use borrow.Author.Rules.{rules}
-use Rattle.jezynar.proofs.jezynar_segment_open.Statement.{statement}
-use Rattle.jezynar.proofs.jezynar_segment_open.Tie as tie
+use Rattle.jezynar.proofs.jezynar_segment_open.Goals as goal
 
-open-requires : tie.Need-open-requires
-open-requires c κs = search rules
+pub packed-requires : goal.packed-requires
+packed-requires c =
+    let a = c.args in
+    opening_index a.list.now a.baud a.practice c.open-refusal.ensures.index_is
 
-packed-requires : tie.Need-packed-requires
-packed-requires c κs =
-    let a = c.before.before.before.args in
-    opening_index a.list.now a.baud a.practice c.«open».ensures.index_is
-
-returns : tie.Need-returns
+pub returns : goal.returns
 returns c =
-    let r = c.before.«open».result in
-    let o = c.before.«open».ensures in
+    let r = c.open-refusal.result in
+    let o = c.open-refusal.ensures in
     let e = c.packed.ensures in
     let small = number_small r in
     let n : refusal_number_value r ≡ c.packed.result % 256 = omega (arith, e, small) in
@@ -31,6 +26,3 @@ returns c =
       bytes = λ z. o.bytes (omega (arith, n, z));
       kept = λ z. o.kept (omega (arith, n, z));
     }
-
-pub jezynar-segment-open-spec : {M : Type 1} → statement M
-jezynar-segment-open-spec = tie.close (tie.spec open-requires packed-requires returns)
