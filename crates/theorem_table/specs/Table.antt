@@ -1,6 +1,6 @@
 -- 01, "Table to be shown true": (a) to (l), and what they speak of.
-use Rattle.std.specs.Prelude.{◌≡◌, Bool, false, List, [], ◌∷◌, ℕ, ◌+◌, ◌*◌, ◌≤◌, pos, Float, length}
-use Rattle.std.specs.Float.{nan, fin, binary64}
+use Rattle.std.specs.Prelude.{◌≡◌, Bool, false, List, [], ◌∷◌, ℕ, ◌+◌, ◌*◌, ◌≤◌, length}
+use Rattle.std.specs.Float.{nan, binary64}
 use Rattle.std.specs.Float.Ieee.{round}
 use Rattle.laws.specs.Ascii.{ascii}
 use Rattle.list_check.specs.Tables.{medium_heat, medium_water, fault_none, fault_busy}
@@ -15,8 +15,7 @@ use Rattle.time_clock.specs.declared.Clock.{Clock}
 use Rattle.list_meter.specs.Fresh.{seed_of_value}
 use Rattle.list_builtin.specs.Builtins.{ok10, KAM, SEN, meter}
 use Rattle.list_open.specs.Opening.{opens, open_list_value}
-use Rattle.segment.specs.Plain.{Plain, blank}
-use Rattle.segment.specs.Calls.{after_opening}
+use Rattle.segment.specs.Plain.{Plain}
 use Rattle.segment_replies.specs.Replies.{joined}
 use Rattle.segment_send.specs.Send.{send}
 use Rattle.search_walk.specs.Walk.{mask_digits, mask, Entry, one, many, Walked, whole_walk}
