@@ -1,11 +1,10 @@
 // Writes the four built-in lists, one after the other: they are held to the files of examples/.
 #![tactic(auto)]
 
-use std::io;
-
-fn main(rt: HostRuntime) -> io::Result<()> {
-    rt.write_all(&list_builtin::praxis())?;
-    rt.write_all(&list_builtin::ok10())?;
-    rt.write_all(&list_builtin::mfh30())?;
-    rt.write_all(&list_builtin::bauds())
+// Where writing fails the status is 0 all the same: what is written shows it.
+fn main(rt: HostRuntime) {
+    let _ = rt.write_all(&list_builtin::praxis());
+    let _ = rt.write_all(&list_builtin::ok10());
+    let _ = rt.write_all(&list_builtin::mfh30());
+    let _ = rt.write_all(&list_builtin::bauds());
 }
