@@ -1,14 +1,14 @@
 -- The calls' arguments: those that fit are values that the machine can hold, and a call is entered with them and left
 -- with their last values.
-use mathlib.Core.Path.{◌≡◌, refl, subst, ◌∙◌}
+use mathlib.Core.Path.{◌≡◌, refl, subst}
 use mathlib.Core.Bool.{Bool}
 use mathlib.Core.Logic.{∥∥₁_prop, ∥∥₁_elim, ∥∥₁_map}
 use mathlib.Core.List.{List, [], ◌∷◌, map}
 use Prim.Native.Nat.{ℕ}
 use lib.Ieee.{Float, binary64}
-use lib.ListN.{length, length-map}
+use lib.ListN.{length}
 use seplogic.Ra.Ura.{Ura}
-use seplogic.Ra.TreeShare.{full_share}
+use base.Fraction.{full_share}
 use mir.Syntax.{w8, w32, ty_int}
 use mir.Val.{Val, vint, vbool, vfloat}
 use base.Logic.{SProp, ent, sep, emp, via, mono_l, fst∗, snd∗}
@@ -28,6 +28,7 @@ use denote.Laws.{Is}
 use denote.Memory.{mem, part_at, shares}
 use denote.Plain.{uint_Makes, uint_Lawful, uint_Tells, bool_Makes}
 use denote.Shadow.{shadow}
+use denote.Copied.{uint_Copied}
 use denote.Struct.Laws as structs
 use types.Kit.{‵, ◌$◌, ◌∵◌, !, qed, use1, fsplit, fjoin, feq_i, move, by, done}
 use types.SemTy.{cells}
@@ -60,13 +61,13 @@ is_kind One = enums.owes kind.the_type kind-laws.the_laws One tt
 is_kind Mute = enums.owes kind.the_type kind-laws.the_laws Mute tt
 is_kind Many = enums.owes kind.the_type kind-laws.the_laws Many tt
 
-each-digit : (ns : List ℕ) → Every Byte ns → shadow (each ℕ u8.own_val (map (λ (n : ℕ). n) ns) (map (vint w8) (map (λ (n : ℕ). n) ns)))
+each-digit : (ns : List ℕ) → Every Byte ns → shadow (each ℕ u8.own_val ns (map (vint w8) ns))
 each-digit [] f = tt
 each-digit (n ∷ ns) f = ((refl, f.0), each-digit ns f.1)
 
 record_vals : (e : EntryRecord) → FitRecord e → Is entry-record.the_row e (structs.vals entry-record.the_type entry-laws.the_laws e)
 record_vals e f =
-    structs.owes entry-record.the_type entry-laws.the_laws e (is_kind e.kind, ((_, ((refl, length-map e.digits (λ (n : ℕ). n) ∙ f.0), each-digit e.digits f.1.0)), ((refl, f.1.1), tt)))
+    structs.owes entry-record.the_type entry-laws.the_laws e (is_kind e.kind, ((_, ((refl, f.0), each-digit e.digits f.1.0)), ((refl, f.1.1), tt)))
 
 is_record : (e : EntryRecord) → FitRecord e → Is entry-record.the_row e (entry-laws.lowered e ∷ [])
 is_record e f = subst (λ (vs : List Val). Is entry-record.the_row e vs) ((entry-laws.lowers).val_is e (structs.vals entry-record.the_type entry-laws.the_laws e) (record_vals e f)) (record_vals e f)
@@ -122,7 +123,7 @@ module _ {M : Type 1} {𝓤 : Ura M} (𝓛 : Logic 𝓤) (𝓜 : Model 𝓤 𝓛
   bytes b xs room = lent (slice_loan 𝓛 u8 b xs room)
 
   abbrev pub shared_bytes : (b : ℕ) (xs : List ℕ) → Room (length xs) 1 → Arg 𝓛
-  shared_bytes b xs room = lent (shared_slice_loan 𝓛 u8 b xs room)
+  shared_bytes b xs room = lent (shared_slice_loan 𝓛 u8 b xs room ((uint_Copied 𝓛 w8).shares full_share []))
 
   abbrev pub records : (b : ℕ) (es : List EntryRecord) → Room (length es) 16 → Arg 𝓛
   records b es room = lent (slice_loan 𝓛 entry-record.the_row b es room)

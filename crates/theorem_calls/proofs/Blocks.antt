@@ -16,13 +16,13 @@ use Prim.Native.Nat.{ℕ, ◌+◌}
 use lib.Dec.{T as Holds}
 use lib.ListN.{length, length-map}
 use seplogic.Ra.Ura.{Ura}
-use seplogic.Ra.TreeShare.{full_share}
+use base.Fraction.{full_share}
 use seplogic.Bi.Sat
 use mir.Syntax.{Ty, named, ty_array}
 use mir.Val.{Val, vstruct, of_list, has_ty, WT}
 use mir.Raw.{raw as raw_ty}
 use base.Logic.{SProp, ent, sep, emp, ex, upd, guard, Sat_exists, id⊢, via, mono_l, mono_r, mono∗, ex_i, ex∗, assoc∗, assoc', fst∗, snd∗, guard_e, guard_i, upd_mono, upd_frame}
-use base.Fml.{Fml, GName, feq, fat, fsep, flft, flent}
+use base.Fml.{Fml, GName, Incl-refl, feq, fat, fsep, flft, flent}
 use prog.Memory.{Memory, size, load_m, store_m, alloc_m}
 use prog.Wp.{Heap}
 use prog.Model.{Model, elems}
@@ -30,7 +30,7 @@ use contract.Monad.{fact_i}
 use Rattle.theorem_calls.specs.Lent.{stored, values, array_ty, holding, Loads}
 use contract.Adequate.{Satisfies, sat_weaken, sat_upd, sat_fact}
 use types.Logic.{Logic, sem}
-use types.Kit.{‵, ◌⊛◌, some, later, ◌$◌, ◌∵◌, !, qed, by, move, keep, use1, use3, split, join, pick, rewrite, fsplit, fjoin, feq_i, fpick, fpack, suffices, frame, await, updating, now as at_once, done}
+use types.Kit.{‵, ◌⊛◌, some, later, ◌$◌, ◌∵◌, !, qed, by, move, keep, use1, use2, use3, split, join, pick, rewrite, fsplit, fjoin, feq_i, fpick, fpack, suffices, frame, await, updating, now as at_once, done}
 use types.Tokens.{lft_new, lft_end, lent_back}
 use types.SemTy.{cells, Arr}
 use denote.RattleType.{RattleType}
@@ -38,6 +38,7 @@ use denote.Array.{each, array_val, Array-Typed}
 use denote.Shadow.{shadow}
 use denote.Laws.{Is, Makes, Lawful, shows}
 use denote.Memory.{raw_all, lone, cell_raw, part_at, part_of, mem, shares}
+use denote.Shares.{Shares}
 use denote.Slice.{MutSlice, ShrSlice, slice_val, Room, finally}
 use denote.Steps.{owned, peeks}
 use denote.Lend.{lends_slice, lends_shr_slice, slice_back, Held}
@@ -103,15 +104,20 @@ module _ {M : Type 1} {𝓤 : Ura M} (𝓛 : Logic 𝓤) (R : RattleType) where
       (sep 𝓤 (A.lft (α ∷ []) full_share) (sem 𝓛 ((ShrSlice (named 0) (α ∷ []) R).own_val (record { ref_ptr = (b, 0); now = xs }) (slice_val (b, 0) (length xs) ∷ []))))
       (A.lent (α ∷ []) (Parts b xs))
 
-  pub share_cells : (b : ℕ) (xs : List R.Denot) → Room R (length xs) → ent 𝓤 (sem 𝓛 (cells (mem R) xs b 0)) (H.⇛ (ex 𝓤 (λ (α : ℕ). ex 𝓤 (SharedOf b xs α))))
-  share_cells b xs room =
+  -- the token of the loan's lifetime serves to lend, and comes back
+  share_row : Shares 𝓛 R [] → (b : ℕ) (xs : List R.Denot) → Room R (length xs) → (α γ : ℕ) → ent 𝓤 (sep 𝓤 (sem 𝓛 (Parts b xs)) (A.lft (α ∷ []) full_share)) (H.⇛ (sep 𝓤 (sep 𝓤 (sem 𝓛 ((ShrSlice (named 0) (α ∷ []) R).own_val (record { ref_ptr = (b, 0); now = xs }) (slice_val (b, 0) (length xs) ∷ []))) (A.lent (α ∷ []) (Parts b xs))) (A.lft (α ∷ []) full_share)))
+  share_row shared b xs room α γ =
+      lends_shr_slice 𝓛 R (named 0) (α ∷ []) full_share xs b 0 room [] shared ((α ∷ [], full_share) ∷ []) (λ a m. ∥∥₁_elim m ∥∥₁_prop (λ k. elim k [ ])) (Incl-refl (α ∷ []))
+
+  pub share_cells : Shares 𝓛 R [] → (b : ℕ) (xs : List R.Denot) → Room R (length xs) → ent 𝓤 (sem 𝓛 (cells (mem R) xs b 0)) (H.⇛ (ex 𝓤 (λ (α : ℕ). ex 𝓤 (SharedOf b xs α))))
+  share_cells shared b xs room =
       qed 𝓛 (‵ (cells (mem R) xs b 0) ∷ []) ∵ updating ! $ use1 𝓛 (‵ (row R full_share xs b 0)) (whole_out 𝓛 R xs b 0) $ feq_i ! ℕ (length xs) (length xs) refl $ fjoin ! $
       lft_new ! tt (λ α. move ! (1 ∷ []) $
-      use1 𝓛 (later (some (λ (γ : GName). ‵ ((ShrSlice (named 0) (α ∷ []) R).own_val (record { ref_ptr = (b, 0); now = xs }) (slice_val (b, 0) (length xs) ∷ [])) ⊛ ‵ (flent (α ∷ []) (Parts b xs)))))
-      (lends_shr_slice 𝓛 R (named 0) (α ∷ []) full_share xs b 0 room) $
-      await ! tt $ pick ! (λ γ. split ! $ at_once ! $
-      suffices ! (SharedOf b xs α γ) (via 𝓤 (ex 𝓤 (SharedOf b xs α)) (ex_i 𝓤 (SharedOf b xs α) γ) (ex_i 𝓤 (λ (α' : ℕ). ex 𝓤 (SharedOf b xs α')) α)) $
-      move ! (2 ∷ 0 ∷ 1 ∷ []) $ join ! $ frame ! $ keep ! (0 ∷ []) $ done !))
+      use2 𝓛 (later ((‵ ((ShrSlice (named 0) (α ∷ []) R).own_val (record { ref_ptr = (b, 0); now = xs }) (slice_val (b, 0) (length xs) ∷ [])) ⊛ ‵ (flent (α ∷ []) (Parts b xs))) ⊛ ‵ (flft (α ∷ []) full_share)))
+      (share_row shared b xs room α 0) $
+      await ! tt $ split ! $ split ! $ at_once ! $
+      suffices ! (SharedOf b xs α 0) (via 𝓤 (ex 𝓤 (SharedOf b xs α)) (ex_i 𝓤 (SharedOf b xs α) 0) (ex_i 𝓤 (λ (α' : ℕ). ex 𝓤 (SharedOf b xs α')) α)) $
+      move ! (2 ∷ 0 ∷ 1 ∷ []) $ join ! $ frame ! $ keep ! (0 ∷ []) $ done !)
 
   -- they are there again, as they were
   pub shared_back : (b α : ℕ) (xs : List R.Denot) → ent 𝓤 (sep 𝓤 (A.lft (α ∷ []) full_share) (A.lent (α ∷ []) (Parts b xs))) (H.⇛ (sem 𝓛 (cells (mem R) xs b 0)))

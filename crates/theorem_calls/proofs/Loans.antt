@@ -13,11 +13,11 @@ use mathlib.Core.List.{List, [], ◌∷◌}
 use Prim.Native.Nat.{ℕ}
 use lib.ListN.{length}
 use seplogic.Ra.Ura.{Ura}
-use seplogic.Ra.TreeShare.{full_share}
+use base.Fraction.{full_share}
 use mir.Syntax.{named}
 use mir.Val.{Val, vptr}
-use base.Logic.{SProp, ent, sep, emp, ex, id⊢, via, mono_l, mono_r, mono∗, fst∗, snd∗, emp∗, comm∗, assoc∗, ex_e, ex_i}
-use base.Fml.{GName, feq, fsep, flft, flent, fres}
+use base.Logic.{SProp, ent, sep, emp, ex, id⊢, via, mono_l, mono_r, mono∗, fst∗, snd∗, emp∗, comm∗, assoc∗, ex_i}
+use base.Fml.{Fml, GName, feq, fsep, fbor, flft, flent, fres}
 use prog.Memory.{Memory}
 use prog.Model.{Model}
 use prog.Routine.{Routine, ends}
@@ -29,21 +29,26 @@ use denote.Laws.{Is, shows}
 use denote.Lend.{Held, lends_ref, ref_back}
 use denote.Memory.{mem}
 use denote.RattleType.{RattleType}
-use denote.Ref.{MutBor, MutRef}
+use denote.Ref.{Bor, MutBor, MutRef}
 use denote.Signature.{Signature, type_at}
+use denote.Shares.{Shares}
 use denote.Slice.{slice_val, ShrSlice, MutSlice, finally, Room}
 use denote.Triple.Bound.{passed}
 use denote.Triple.Entry.{Res, alive}
 use denote.Triple.Spec.{Spec, triple_of, Meets}
-use types.Kit.{‵, raw, ◌⊛◌, some, later, ◌$◌, ◌∵◌, !, qed, by, move, keep, use0, use1, use2, use3, drop, split, join, pick, fsplit, frame, await, updating, now as at_once, show, suffices, done}
-use types.SemTy.{cells, Body}
+use types.Kit.{‵, raw, ◌⊛◌, some, later, ◌$◌, ◌∵◌, !, qed, by, move, keep, use0, use1, use3, split, join, pick, fsplit, frame, await, updating, now as at_once, suffices, done}
+use types.Hole.{Holey}
+use types.SemTy.{cells, Arr, Body}
 use types.Tokens.{lft_new, lft_end}
-use Rattle.theorem_calls.proofs.Machine.{returns}
+use Rattle.theorem_calls.proofs.Machine.{Strict, returns}
 use Rattle.theorem_calls.proofs.Blocks.{lend_cells, cells_back, Parts, share_cells, shared_back}
 
 -- the reference to x at place 0 of the block b
 abbrev pub ref_to : {D : Type 0} → ℕ → GName → D → MutBor D
 ref_to b γ x = record { ref_ptr = (b, 0); ghost_name = γ; now = x }
+
+abbrev pub shared_to : {D : Type 0} → ℕ → D → Bor D
+shared_to b x = record { ref_ptr = (b, 0); now = x }
 
 pub record Loan {M : Type 1} {𝓤 : Ura M} (𝓛 : Logic 𝓤) : Type 2 where
   -- the type of the last value that a contract may speak of
@@ -53,9 +58,9 @@ pub record Loan {M : Type 1} {𝓤 : Ura M} (𝓛 : Logic 𝓤) : Type 2 where
   -- for the lifetime α, under the name γ
   pub given : ℕ → GName → SProp 𝓤
   pub aside : ℕ → GName → SProp 𝓤
-  pub final : GName → Value → SProp 𝓤
+  pub final : ℕ → GName → Value → SProp 𝓤
   pub lend : ent 𝓤 before (𝓛.H.⇛ (ex 𝓤 (λ (α : ℕ). ex 𝓤 (λ (γ : GName). sep 𝓤 (sep 𝓤 (𝓛.A.lft (α ∷ []) full_share) (given α γ)) (aside α γ)))))
-  pub back : (α : ℕ) (γ : GName) (w : Value) → ent 𝓤 (sep 𝓤 (𝓛.A.lft (α ∷ []) full_share) (sep 𝓤 (aside α γ) (final γ w))) (𝓛.H.⇛ (after w))
+  pub back : (α : ℕ) (γ : GName) (w : Value) → ent 𝓤 (sep 𝓤 (𝓛.A.lft (α ∷ []) full_share) (sep 𝓤 (aside α γ) (final α γ w))) (𝓛.H.⇛ (after w))
 
 module _ {M : Type 1} {𝓤 : Ura M} (𝓛 : Logic 𝓤) (R : RattleType) (b : ℕ) where
   -- ---- one value, as a `&mut T`
@@ -80,9 +85,14 @@ module _ {M : Type 1} {𝓤 : Ura M} (𝓛 : Logic 𝓤) (R : RattleType) (b : �
         suffices ! (RefLent α γ) (via 𝓤 (ex 𝓤 (RefLent α)) (ex_i 𝓤 (RefLent α) γ) (ex_i 𝓤 (λ (α' : ℕ). ex 𝓤 (RefLent α')) α)) $
         move ! (2 ∷ 0 ∷ 1 ∷ []) $ join ! $ frame ! $ keep ! (0 ∷ []) $ done !))
 
-    pub ref_returns : (α : ℕ) (γ : GName) (y : R.Denot) → ent 𝓤 (sep 𝓤 (A.lft (α ∷ []) full_share) (sep 𝓤 (RefAside α γ) (A.res γ (R.coded.code y)))) (H.⇛ (sem 𝓛 ((mem R).own_at y b 0)))
+    -- the last value, and the borrow, closed
+    abbrev RefFinal : ℕ → GName → R.Denot → Fml
+    RefFinal α γ y = fsep (fres γ (R.coded.code y)) (fbor (α ∷ []) (Body (mem R) b 0 γ))
+
+    pub ref_returns : (α : ℕ) (γ : GName) (y : R.Denot) → ent 𝓤 (sep 𝓤 (A.lft (α ∷ []) full_share) (sep 𝓤 (RefAside α γ) (sem 𝓛 (RefFinal α γ y)))) (H.⇛ (sem 𝓛 ((mem R).own_at y b 0)))
     ref_returns α γ y =
-        qed 𝓛 (‵ (flft (α ∷ []) full_share) ∷ ‵ (flent (α ∷ []) (Body (mem R) b 0 γ)) ∷ ‵ (fres γ (R.coded.code y)) ∷ []) ∵ updating ! $ lft_end ! tt $
+        qed 𝓛 (‵ (flft (α ∷ []) full_share) ∷ ‵ (flent (α ∷ []) (Body (mem R) b 0 γ)) ∷ ‵ (RefFinal α γ y) ∷ []) ∵
+        move ! (2 ∷ []) $ fsplit ! $ keep ! (2 ∷ 3 ∷ 0 ∷ []) $ updating ! $ lft_end ! tt $
         use3 𝓛 (later (‵ ((mem R).own_at y b 0))) (ref_back 𝓛 R (α ∷ []) γ y b 0) $ await ! tt $ at_once ! $ done !
 
     abbrev pub ref_loan : Loan 𝓛
@@ -92,7 +102,7 @@ module _ {M : Type 1} {𝓤 : Ura M} (𝓛 : Logic 𝓤) (R : RattleType) (b : �
       after = λ y. sem 𝓛 ((mem R).own_at y b 0);
       given = RefGiven;
       aside = RefAside;
-      final = λ γ y. A.res γ (R.coded.code y);
+      final = λ α γ y. sem 𝓛 (RefFinal α γ y);
       lend = ref_lend;
       back = ref_returns;
     }
@@ -102,13 +112,13 @@ module _ {M : Type 1} {𝓤 : Ura M} (𝓛 : Logic 𝓤) (R : RattleType) (b : �
     abbrev Cells : List R.Denot → SProp 𝓤
     Cells ys = sem 𝓛 (cells (mem R) ys b 0)
 
-    abbrev SliceFinal : GName → List R.Denot → SProp 𝓤
-    SliceFinal γ ys = sem 𝓛 (fsep (finally R γ ys) (feq ℕ (length ys) (length xs)))
+    abbrev SliceFinal : ℕ → GName → List R.Denot → Fml
+    SliceFinal α γ ys = fsep (fsep (finally R γ ys) (feq ℕ (length ys) (length xs))) (fbor (α ∷ []) (Body (Arr (Holey (mem R)) (length xs)) b 0 γ))
 
-    pub slice-returns : (α : ℕ) (γ : GName) (ys : List R.Denot) → ent 𝓤 (sep 𝓤 (A.lft (α ∷ []) full_share) (sep 𝓤 (A.lent (α ∷ []) (Held R (length xs) b 0 γ)) (SliceFinal γ ys))) (H.⇛ (Cells ys))
+    pub slice-returns : (α : ℕ) (γ : GName) (ys : List R.Denot) → ent 𝓤 (sep 𝓤 (A.lft (α ∷ []) full_share) (sep 𝓤 (A.lent (α ∷ []) (Held R (length xs) b 0 γ)) (sem 𝓛 (SliceFinal α γ ys)))) (H.⇛ (Cells ys))
     slice-returns α γ ys =
-        qed 𝓛 (‵ (flft (α ∷ []) full_share) ∷ ‵ (flent (α ∷ []) (Held R (length xs) b 0 γ)) ∷ ‵ (fsep (finally R γ ys) (feq ℕ (length ys) (length xs))) ∷ []) ∵
-        move ! (2 ∷ []) $ fsplit ! $ keep ! (2 ∷ 3 ∷ 0 ∷ []) $ by ! (cells_back 𝓛 R b α γ (length xs) ys)
+        qed 𝓛 (‵ (flft (α ∷ []) full_share) ∷ ‵ (flent (α ∷ []) (Held R (length xs) b 0 γ)) ∷ ‵ (SliceFinal α γ ys) ∷ []) ∵
+        move ! (2 ∷ []) $ fsplit ! $ fsplit ! $ keep ! (3 ∷ 4 ∷ 0 ∷ []) $ by ! (cells_back 𝓛 R b α γ (length xs) ys)
 
     abbrev pub slice_loan : Loan 𝓛
     slice_loan = record {
@@ -117,20 +127,20 @@ module _ {M : Type 1} {𝓤 : Ura M} (𝓛 : Logic 𝓤) (R : RattleType) (b : �
       after = Cells;
       given = λ α γ. sem 𝓛 ((MutSlice (named 0) (α ∷ []) R).own_val (ref_to b γ xs) (slice_val (b, 0) (length xs) ∷ []));
       aside = λ α γ. A.lent (α ∷ []) (Held R (length xs) b 0 γ);
-      final = SliceFinal;
+      final = λ α γ ys. sem 𝓛 (SliceFinal α γ ys);
       lend = lend_cells 𝓛 R b xs room;
       back = slice-returns;
     }
 
-    abbrev pub shared_slice_loan : Loan 𝓛
-    shared_slice_loan = record {
+    abbrev pub shared_slice_loan : Shares 𝓛 R [] → Loan 𝓛
+    shared_slice_loan shares = record {
       Value = Unit {0};
       before = Cells xs;
       after = λ _. Cells xs;
-      given = λ α γ. sem 𝓛 ((ShrSlice (named 0) (α ∷ []) R).own_val (ref_to b γ xs) (slice_val (b, 0) (length xs) ∷ []));
+      given = λ α γ. sem 𝓛 ((ShrSlice (named 0) (α ∷ []) R).own_val (shared_to b xs) (slice_val (b, 0) (length xs) ∷ []));
       aside = λ α γ. A.lent (α ∷ []) (Parts 𝓛 R b xs);
-      final = λ γ _. emp 𝓤;
-      lend = share_cells 𝓛 R b xs room;
+      final = λ α γ _. emp 𝓤;
+      lend = share_cells 𝓛 R shares b xs room;
       back = λ α γ _. qed 𝓛 (‵ (flft (α ∷ []) full_share) ∷ ‵ (flent (α ∷ []) (Parts 𝓛 R b xs)) ∷ raw (emp 𝓤) ∷ []) ∵ keep ! (0 ∷ 1 ∷ []) $ by ! (shared_back 𝓛 R b α xs);
     }
 
@@ -181,7 +191,7 @@ module _ {M : Type 1} {𝓤 : Ura M} (𝓛 : Logic 𝓤) where
 
   abbrev pub finals : (as' : List (Arg 𝓛)) → Index as' → Values as' → SProp 𝓤
   finals [] i w = emp 𝓤
-  finals (lent l ∷ as') i w = sep 𝓤 (l.final i.0.1 w.0) (finals as' i.1 w.1)
+  finals (lent l ∷ as') i w = sep 𝓤 (l.final i.0.0 i.0.1 w.0) (finals as' i.1 w.1)
   finals (plain P h ∷ as') i w = sep 𝓤 (emp 𝓤) (finals as' i w.1)
 
   abbrev pub Lent : (as' : List (Arg 𝓛)) → Index as' → SProp 𝓤
@@ -211,7 +221,7 @@ module _ {M : Type 1} {𝓤 : Ura M} (𝓛 : Logic 𝓤) where
     pub backs : (as' : List (Arg 𝓛)) (i : Index as') (w : Values as') → ent 𝓤 (sep 𝓤 (tokens as' i) (sep 𝓤 (asides as' i) (finals as' i w))) (H.⇛ (afters as' w))
     backs [] i w = qed 𝓛 (raw (emp 𝓤) ∷ raw (emp 𝓤) ∷ raw (emp 𝓤) ∷ []) ∵ updating ! $ at_once ! $ keep ! (0 ∷ []) $ done !
     backs (lent l ∷ as') i w =
-        qed 𝓛 ((‵ (flft (i.0.0 ∷ []) full_share) ⊛ raw (tokens as' i.1)) ∷ (raw (l.aside i.0.0 i.0.1) ⊛ raw (asides as' i.1)) ∷ (raw (l.final i.0.1 w.0) ⊛ raw (finals as' i.1 w.1)) ∷ []) ∵ updating ! $
+        qed 𝓛 ((‵ (flft (i.0.0 ∷ []) full_share) ⊛ raw (tokens as' i.1)) ∷ (raw (l.aside i.0.0 i.0.1) ⊛ raw (asides as' i.1)) ∷ (raw (l.final i.0.0 i.0.1 w.0) ⊛ raw (finals as' i.1 w.1)) ∷ []) ∵ updating ! $
         split ! $ move ! (2 ∷ []) $ split ! $ move ! (4 ∷ []) $ split ! $
         -- [final; finals; aside; asides; token; tokens]
         move ! (4 ∷ 2 ∷ 0 ∷ []) $ use3 𝓛 (later (raw (l.after w.0))) (l.back i.0.0 i.0.1 w.0) $ await ! tt $
@@ -220,7 +230,7 @@ module _ {M : Type 1} {𝓤 : Ura M} (𝓛 : Logic 𝓤) where
         qed 𝓛 (raw (tokens as' i) ∷ raw (asides as' i) ∷ (raw (emp 𝓤) ⊛ raw (finals as' i w.1)) ∷ []) ∵ move ! (2 ∷ []) $ split ! $ keep ! (2 ∷ 3 ∷ 1 ∷ []) $ by ! (backs as' i w.1)
 
 -- ---- a call
-module _ {M : Type 1} {𝓤 : Ura M} (𝓛 : Logic 𝓤) (𝓜 : Model 𝓤 𝓛.H) (𝓡 : Running 𝓤 𝓛.H 𝓜)
+module _ {M : Type 1} {𝓤 : Ura M} (𝓛 : Logic 𝓤) (𝓜 : Model 𝓤 𝓛.H) (𝓡 : Running 𝓤 𝓛.H 𝓜) (strict : Strict 𝓤 𝓛 𝓜 𝓡)
     (S : Signature) (ρ : Routine) (c : Spec 𝓤 S) (met : Meets 𝓛 S (𝓡.run ρ) c)
     (ls : List (Arg 𝓛)) (y : Index 𝓛 ls → (triple_of 𝓛 S c).Ghost) (σ : Memory) (G : SProp 𝓤) where
   open 𝓛 use {H}
@@ -270,7 +280,7 @@ module _ {M : Type 1} {𝓤 : Ura M} (𝓛 : Logic 𝓤) (𝓜 : Model 𝓤 𝓛
       ∥∥₁_elim (sat_ex∗ 𝓤 H 𝓜 σ Le G (sat_⇛ 𝓤 H 𝓜 σ (ex 𝓤 Le) G (sat_weaken 𝓤 H 𝓜 σ (mono_l 𝓤 G (lends 𝓛 ls)) s))) ∥∥₁_prop (λ i'.
       let i : Ix = i'.0 in
       let Rest : SProp 𝓤 = sep 𝓤 (Asd i) G in
-      ∥∥₁_elim (returns 𝓛 𝓜 𝓡 S ρ c met (y i) σ Rest
+      ∥∥₁_elim (returns 𝓛 𝓜 𝓡 strict S ρ c met (y i) σ Rest
       (sat_weaken 𝓤 H 𝓜 σ {P = sep 𝓤 (Le i) G} (via 𝓤 (sep 𝓤 (sep 𝓤 (Tok i) (Giv i)) Rest) (assoc∗ 𝓤 (sep 𝓤 (Tok i) (Giv i)) (Asd i) G) (mono_l 𝓤 {P = sep 𝓤 (Tok i) (Giv i)} Rest (via 𝓤 (sep 𝓤 (sep 𝓤 (Tok i) (Giv i)) (emp 𝓤)) (closed (sep 𝓤 (Tok i) (Giv i))) (enters i)))) i'.1))
       ∥∥₁_prop (λ t.
       let Row : RattleType = type_at S.result (y i).0.0 in

@@ -2,6 +2,8 @@
 -- search over lent entry records.
 -- The segment's image lies in one block from the first call to the last. No contract is named here, and nothing of
 -- the logic.
+--     γ name               what the machine does at a call of that function, its routine. γ is any environment of
+--                          routines that has the program's code
 --     ends ρ vs σ v σ'     the machine, called at the routine ρ with the machine values vs in the memory σ, comes to
 --                          its end: it returns v, and the memory is then σ'. It ends in one way
 --     vptr b 0             a pointer to the first byte of block b
@@ -11,19 +13,21 @@ use Rattle.std.specs.Float.{binary64}
 use mir.Syntax.{w8, w32, ty_int}
 use mir.Val.{Val, vint, vbool, vfloat, vptr}
 use prog.Memory.{Memory}
-use prog.Routine.{ends}
+use prog.Routine.{Env, ends}
+use prog.Wired.{Wired}
 use denote.Slice.{slice_val}
 use Rattle.time_clock.specs.declared.Clock.{Clock}
 use Rattle.time_clock.proofs.Clock.TheLaws.{lowered as clock-value}
 use Rattle.search.proofs.EntryRecord.TheLaws.{mir as record-ty, lowered as record-value}
-use Rattle.search.proofs.search.Symbol.{routine as search-into-routine}
+use Rattle.search.proofs.search.Symbol.{name as search-into-name, code as search-into-code}
 use Rattle.search.specs.declared.EntryRecord.{EntryRecord}
-use Rattle.jezynar.proofs.jezynar_segment_open.Symbol.{routine as open-routine}
-use Rattle.jezynar.proofs.jezynar_segment_send.Symbol.{routine as send-routine}
-use Rattle.jezynar.proofs.jezynar_segment_receive.Symbol.{routine as receive-routine}
-use Rattle.jezynar.proofs.jezynar_segment_clear.Symbol.{routine as clear-routine}
-use Rattle.jezynar.proofs.jezynar_segment_set_baud.Symbol.{routine as set-baud-routine}
-use Rattle.jezynar.proofs.jezynar_segment_search.Symbol.{routine as search-routine}
+use Rattle.jezynar.proofs.jezynar_segment_new.Symbol.{code as new-code}
+use Rattle.jezynar.proofs.jezynar_segment_open.Symbol.{name as open-name, code as open-code}
+use Rattle.jezynar.proofs.jezynar_segment_send.Symbol.{name as send-name, code as send-code}
+use Rattle.jezynar.proofs.jezynar_segment_receive.Symbol.{name as receive-name, code as receive-code}
+use Rattle.jezynar.proofs.jezynar_segment_clear.Symbol.{name as clear-name, code as clear-code}
+use Rattle.jezynar.proofs.jezynar_segment_set_baud.Symbol.{name as set-baud-name, code as set-baud-code}
+use Rattle.jezynar.proofs.jezynar_segment_search.Symbol.{name as search-name, code as search-code}
 use Rattle.theorem_calls.specs.Call.{Call, opening, sending, receiving, clearing, changing, searching, searching_into}
 use Rattle.theorem_calls.specs.Lent.{holding}
 
@@ -47,19 +51,31 @@ array_at σ = vptr (length σ) 0
 abbrev pub clock_then : Clock → List Val → List Val
 clock_then k vs = vfloat binary64 k.now ∷ vint w32 k.year ∷ vint w32 k.month ∷ vint w32 k.day ∷ vint w32 k.hour ∷ vint w32 k.minute ∷ vs
 
+-- γ has the program's code: at the name of each of these functions, and of each function that is called from them, it
+-- does what that function's own code does
+pub record HasProgram (γ : Env) : Type 0 where
+  pub at_new : Wired γ new-code
+  pub at_open : Wired γ open-code
+  pub at_send : Wired γ send-code
+  pub at_receive : Wired γ receive-code
+  pub at_clear : Wired γ clear-code
+  pub at_set_baud : Wired γ set-baud-code
+  pub at_search : Wired γ search-code
+  pub at_search_into : Wired γ search-into-code
+
 -- One call on the image in block b, in the memory σ. Everything else that is lent lies in a block of its own: a
 -- search has one for the entries, and behind it one for the summary.
-abbrev pub Runs : ℕ → Call → Memory → Val → Memory → Type 0
-Runs b (opening list bus practice origin) σ r σ' = ends open-routine (vptr b 0 ∷ lent_at σ (length list) ∷ vint w32 bus ∷ vbool practice ∷ vfloat binary64 origin ∷ []) (with_bytes σ list) r σ'
-Runs b (sending piece k) σ r σ' = ends send-routine (vptr b 0 ∷ lent_at σ (length piece) ∷ clock_then k []) (with_bytes σ piece) r σ'
-Runs b (receiving lent) σ r σ' = ends receive-routine (vptr b 0 ∷ lent_at σ (length lent) ∷ []) (with_bytes σ lent) r σ'
-Runs b clearing σ r σ' = ends clear-routine (vptr b 0 ∷ []) σ r σ'
-Runs b (changing baud) σ r σ' = ends set-baud-routine (vptr b 0 ∷ vint w32 baud ∷ []) σ r σ'
-Runs b (searching k allowance entries summary) σ r σ' =
-    ends search-routine (vptr b 0 ∷ clock_then k (vint w32 allowance ∷ lent_at σ (length entries) ∷ array_at (with_bytes σ entries) ∷ [])) (with_bytes (with_bytes σ entries) summary) r σ'
-Runs b (searching_into k allowance lent) σ r σ' = ends search-into-routine (vptr b 0 ∷ clock-value k ∷ vint w32 allowance ∷ lent_at σ (length lent) ∷ []) (with_records σ lent) r σ'
+abbrev pub Runs : Env → ℕ → Call → Memory → Val → Memory → Type 0
+Runs γ b (opening list bus practice origin) σ r σ' = ends (γ open-name) (vptr b 0 ∷ lent_at σ (length list) ∷ vint w32 bus ∷ vbool practice ∷ vfloat binary64 origin ∷ []) (with_bytes σ list) r σ'
+Runs γ b (sending piece k) σ r σ' = ends (γ send-name) (vptr b 0 ∷ lent_at σ (length piece) ∷ clock_then k []) (with_bytes σ piece) r σ'
+Runs γ b (receiving lent) σ r σ' = ends (γ receive-name) (vptr b 0 ∷ lent_at σ (length lent) ∷ []) (with_bytes σ lent) r σ'
+Runs γ b clearing σ r σ' = ends (γ clear-name) (vptr b 0 ∷ []) σ r σ'
+Runs γ b (changing baud) σ r σ' = ends (γ set-baud-name) (vptr b 0 ∷ vint w32 baud ∷ []) σ r σ'
+Runs γ b (searching k allowance entries summary) σ r σ' =
+    ends (γ search-name) (vptr b 0 ∷ clock_then k (vint w32 allowance ∷ lent_at σ (length entries) ∷ array_at (with_bytes σ entries) ∷ [])) (with_bytes (with_bytes σ entries) summary) r σ'
+Runs γ b (searching_into k allowance lent) σ r σ' = ends (γ search-into-name) (vptr b 0 ∷ clock-value k ∷ vint w32 allowance ∷ lent_at σ (length lent) ∷ []) (with_records σ lent) r σ'
 
 -- The calls, from the memory σ to the memory σ': each in the memory that the one before left, whatever it returned
-pub data Made (b : ℕ) : List Call → Memory → Memory → Type 0 where
-  over : {σ : Memory} → Made b [] σ σ
-  next : {c : Call} {cs : List Call} {σ σ' : Memory} (r : Val) (σ₁ : Memory) → Runs b c σ r σ₁ → Made b cs σ₁ σ' → Made b (c ∷ cs) σ σ'
+pub data Made (γ : Env) (b : ℕ) : List Call → Memory → Memory → Type 0 where
+  over : {σ : Memory} → Made γ b [] σ σ
+  next : {c : Call} {cs : List Call} {σ σ' : Memory} (r : Val) (σ₁ : Memory) → Runs γ b c σ r σ₁ → Made γ b cs σ₁ σ' → Made γ b (c ∷ cs) σ σ'
