@@ -24,8 +24,7 @@ use Rattle.search.specs.declared.EntryRecord.{EntryRecord}
 use Rattle.search.specs.SearchCall.{Searched, search_call}
 use Rattle.search.proofs.Allowed.{search_cases}
 use Rattle.c_search.specs.Searches.{search_by, records_for}
-use Rattle.theorem_calls.specs.Call.{Call, opening, sending, receiving, clearing, changing, searching, searching_into, after_call}
-use Rattle.theorem_calls.specs.Fit.{FitCall}
+use Rattle.theorem_calls.specs.Call.{opening, sending, receiving, clearing, changing, searching, searching_into, after_call}
 use Rattle.theorem_as_left.specs.Left.{Sound, CallsKeepSound}
 use Rattle.theorem_as_left.proofs.OpeningSound.{opening_sound}
 use Rattle.theorem_as_left.proofs.TelegramsKeep.{SoundBus, handled_sound}

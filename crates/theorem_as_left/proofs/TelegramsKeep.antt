@@ -43,6 +43,7 @@ module _ (m n : PlainMeter) (e : fixed n ≡ fixed m) where
   maker_stays (unnamed c p q) = unnamed (ap (λ (f : Fixed). f.manufacturer) e ∙ c) (ap (λ (f : Fixed). f.medium) e ∙ p) (ap (λ (f : Fixed). f.model) e ∙ q)
 
   medium_stays : (rs : List Medium) → InMedia m rs → InMedia n rs
+  medium_stays [] x' = elim x' [ ]
   medium_stays (r ∷ rs) (first p q) = first (ap (λ (f : Fixed). f.medium) e ∙ p) (ap (λ (f : Fixed). f.model) e ∙ q)
   medium_stays (r ∷ rs) (later h) = later (medium_stays rs h)
 
