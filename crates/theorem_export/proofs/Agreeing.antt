@@ -23,6 +23,10 @@ agree_with o m n a b =
 pub all_agree_with : (os ms ns : List PlainMeter) → AllAgree os ms → AllAgree os ns → AllAgree ms ns
 all_agree_with [] [] [] a b = tt
 all_agree_with (o ∷ os) (m ∷ ms) (n ∷ ns) a b = (agree_with o m n a.0 b.0, all_agree_with os ms ns a.1 b.1)
+all_agree_with [] [] (n ∷ ns) a b = elim b [ ]
+all_agree_with [] (m ∷ ms) ns a b = elim a [ ]
+all_agree_with (o ∷ os) [] ns a b = elim a [ ]
+all_agree_with (o ∷ os) (m ∷ ms) [] a b = elim b [ ]
 
 -- ---- their records are the same: a record has no other part of a meter than those that agree
 
@@ -34,3 +38,5 @@ module _ (bus : ℕ) where
   pub records_same : (ms ns : List PlainMeter) → AllAgree ms ns → map (record_for bus) ms ≡ map (record_for bus) ns
   records_same [] [] a = refl
   records_same (m ∷ ms) (n ∷ ns) a = ap₂ (λ r rs. r ∷ rs) (record_same m n a.0) (records_same ms ns a.1)
+  records_same [] (n ∷ ns) a = elim a [ ]
+  records_same (m ∷ ms) [] a = elim a [ ]
