@@ -5,7 +5,6 @@
 
 use segment::Segment;
 use segment_image::IMAGE;
-use std::alloc::AllocError;
 use time_clock::Clock;
 
 mod calls; // calls.rt: each call, and its line of text
@@ -39,42 +38,31 @@ fn clock_of(arguments: &[u8]) -> Clock {
 }
 
 // A command other than that for the clock.
-fn call(
-    out: &mut String,
-    image: &mut [u8; IMAGE],
-    clock: Clock,
-    name: u8,
-    arguments: &[u8],
-) -> Result<(), AllocError> {
+fn call(rt: &impl Print, image: &mut [u8; IMAGE], clock: Clock, name: u8, arguments: &[u8]) {
     match name {
-        script::OPEN => calls::open_list(out, image, arguments),
-        script::BUILTIN => calls::open_builtin(out, image, arguments),
-        script::SEND => calls::send(out, image, clock, arguments),
-        script::RECEIVE => calls::receive(out, image, arguments),
-        script::CLEAR => calls::clear(out, image),
-        script::BAUD => calls::set_baud(out, image, arguments),
-        script::SEARCH => calls::find(out, image, clock, arguments),
-        script::EXPORT => calls::export(out, image, arguments),
-        script::STATE => show::state(out, segment_image::read_image(image)),
-        script::SHORT => show::short_state(out, segment_image::read_image(image)),
-        _ => Ok(()),
+        script::OPEN => calls::open_list(rt, image, arguments),
+        script::BUILTIN => calls::open_builtin(rt, image, arguments),
+        script::SEND => calls::send(rt, image, clock, arguments),
+        script::RECEIVE => calls::receive(rt, image, arguments),
+        script::CLEAR => calls::clear(rt, image),
+        script::BAUD => calls::set_baud(rt, image, arguments),
+        script::SEARCH => calls::find(rt, image, clock, arguments),
+        script::EXPORT => calls::export(rt, image, arguments),
+        script::STATE => show::state(rt, segment_image::read_image(image)),
+        script::SHORT => show::short_state(rt, segment_image::read_image(image)),
+        _ => {}
     }
 }
 
 // One command; the clock for the next one comes back.
-fn step(
-    out: &mut String,
-    image: &mut [u8; IMAGE],
-    clock: Clock,
-    command: &[u8],
-) -> Result<Clock, AllocError> {
+fn step(rt: &impl Print, image: &mut [u8; IMAGE], clock: Clock, command: &[u8]) -> Clock {
     let name = script::byte(command);
     let arguments = script::rest(command, 1);
     if name == script::CLOCK {
-        return Ok(clock_of(arguments));
+        return clock_of(arguments);
     }
-    call(out, image, clock, name, arguments)?;
-    Ok(clock)
+    call(rt, image, clock, name, arguments);
+    clock
 }
 
 fn no_image() -> [u8; IMAGE] {
@@ -82,7 +70,7 @@ fn no_image() -> [u8; IMAGE] {
 }
 
 // The commands, one after the other, from a segment of no meters on.
-fn replay(out: &mut String, commands: &[u8]) -> Result<(), AllocError> {
+fn replay(rt: &impl Print, commands: &[u8]) {
     let mut image = no_image();
     segment_image::write_image(Segment::new(), &mut image);
     let mut clock = noon();
@@ -91,20 +79,15 @@ fn replay(out: &mut String, commands: &[u8]) -> Result<(), AllocError> {
         let rest = &commands[at..];
         let used = script::used(rest);
         if used == 0 {
-            return Ok(());
+            return;
         }
-        clock = step(out, &mut image, clock, &rest[0..used])?;
+        clock = step(rt, &mut image, clock, &rest[0..used]);
         at += used;
     }
-    Ok(())
 }
 
-// Where writing fails the status is 0 all the same: what is written shows it.
-fn main(rt: HostRuntime) -> Result<(), AllocError> {
+fn main(rt: HostRuntime) {
     let mut buffer = input::large_buffer();
     let count = input::read_full(&mut rt.stdin(), &mut buffer);
-    let mut out = String::new(rt.alloc());
-    replay(&mut out, &buffer[..count])?;
-    let _ = rt.print(&out);
-    Ok(())
+    replay(&rt, &buffer[..count]);
 }

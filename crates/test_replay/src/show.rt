@@ -6,7 +6,6 @@ use laws::least;
 use meter::{Fault, LastFcb, Meter, Model};
 use search::{Entries, EntryRecord, Kind};
 use segment::Segment;
-use std::alloc::AllocError;
 
 fn model_number(model: Model) -> u64 {
     match model {
@@ -38,64 +37,63 @@ fn last_number(last: LastFcb) -> u64 {
 }
 
 // The first seven numbers of a meter's line.
-fn kind(out: &mut String, m: Meter) -> Result<(), AllocError> {
+fn kind(rt: &impl Print, m: Meter) {
     let built = m.built;
     let model = built.model;
     let fault = built.fault;
-    print::decimal(out, print::wide8(m.state.primary))?;
-    print::blank(out)?;
-    print::hex(out, print::wide32(built.id), 8)?;
-    print::next(out, print::wide16(built.manufacturer))?;
-    print::next(out, print::wide8(built.version))?;
-    print::next(out, print::wide8(built.medium))?;
-    print::next(out, model_number(model))?;
-    print::next(out, fault_number(fault))
+    print::decimal(rt, print::wide8(m.state.primary));
+    print::blank(rt);
+    print::hex(rt, print::wide32(built.id), 8);
+    print::next(rt, print::wide16(built.manufacturer));
+    print::next(rt, print::wide8(built.version));
+    print::next(rt, print::wide8(built.medium));
+    print::next(rt, model_number(model));
+    print::next(rt, fault_number(fault));
 }
 
 // The other eight.
-fn condition(out: &mut String, m: Meter) -> Result<(), AllocError> {
+fn condition(rt: &impl Print, m: Meter) {
     let state = m.state;
     let last = state.last;
-    print::next(out, print::wide8(state.access))?;
-    print::next(out, print::wide32(state.baud))?;
-    print::next(out, print::bit(state.selected))?;
-    print::next(out, print::wide8(state.part))?;
-    print::next(out, last_number(last))?;
-    print::next(out, print::wide8(state.readouts))?;
-    print::next(out, print::wide32(m.built.seed))?;
-    print::next(out, print::bit(state.hearing))
+    print::next(rt, print::wide8(state.access));
+    print::next(rt, print::wide32(state.baud));
+    print::next(rt, print::bit(state.selected));
+    print::next(rt, print::wide8(state.part));
+    print::next(rt, last_number(last));
+    print::next(rt, print::wide8(state.readouts));
+    print::next(rt, print::wide32(m.built.seed));
+    print::next(rt, print::bit(state.hearing));
 }
 
-fn meter(out: &mut String, m: Meter) -> Result<(), AllocError> {
-    kind(out, m)?;
-    condition(out, m)?;
-    print::line(out)
+fn meter(rt: &impl Print, m: Meter) {
+    kind(rt, m);
+    condition(rt, m);
+    print::line(rt);
 }
 
 // A line for each meter.
-fn meters(out: &mut String, segment: Segment) -> Result<(), AllocError> {
+fn meters(rt: &impl Print, segment: Segment) {
     let end = least(segment.count, segment::METERS);
     for i in 0..end {
-        meter(out, segment.meters[i])?;
+        meter(rt, segment.meters[i]);
     }
-    Ok(())
 }
 
 // Baud, origin, waiting input, queue and number of meters; then the meters.
-pub(crate) fn state(out: &mut String, segment: Segment) -> Result<(), AllocError> {
+pub(crate) fn state(rt: &impl Print, segment: Segment) {
     let input = segment.input;
     let queue = segment.queue;
-    print::text(out, "state")?;
-    print::next(out, print::wide32(segment.baud))?;
-    print::blank(out)?;
-    print::hex(out, time_seconds::f64_bits(segment.origin), 16)?;
-    print::blank(out)?;
-    print::bytes(out, script::first(&input, segment.waiting), 2)?;
-    print::blank(out)?;
-    print::bytes(out, script::first(&queue, segment.queued), 2)?;
-    print::next(out, print::wide(segment.count))?;
-    print::line(out)?;
-    meters(out, segment)
+    print::text(rt, b"state");
+    print::next(rt, print::wide32(segment.baud));
+    print::blank(rt);
+    print::hex(rt, time_seconds::f64_bits(segment.origin), 16);
+    print::blank(rt);
+    print::bytes(rt, script::first(&input, segment.waiting), 2);
+    print::blank(rt);
+    print::bytes(rt, script::first(&queue, segment.queued), 2);
+    print::next(rt, print::wide(segment.count));
+    print::line(rt);
+    meters(rt, segment);
 }
 
 fn one_if(yes: bool) -> usize
@@ -116,15 +114,15 @@ fn listening(segment: Segment) -> usize {
 }
 
 // Baud, waiting input, how much is queued, and how many meters listen.
-pub(crate) fn short_state(out: &mut String, segment: Segment) -> Result<(), AllocError> {
+pub(crate) fn short_state(rt: &impl Print, segment: Segment) {
     let input = segment.input;
-    print::text(out, "short")?;
-    print::next(out, print::wide32(segment.baud))?;
-    print::blank(out)?;
-    print::bytes(out, script::first(&input, segment.waiting), 2)?;
-    print::next(out, print::wide(segment.queued))?;
-    print::next(out, print::wide(listening(segment)))?;
-    print::line(out)
+    print::text(rt, b"short");
+    print::next(rt, print::wide32(segment.baud));
+    print::blank(rt);
+    print::bytes(rt, script::first(&input, segment.waiting), 2);
+    print::next(rt, print::wide(segment.queued));
+    print::next(rt, print::wide(listening(segment)));
+    print::line(rt);
 }
 
 fn kind_number(kind: Kind) -> u64 {
@@ -136,21 +134,20 @@ fn kind_number(kind: Kind) -> u64 {
 }
 
 // Kind, digits and count.
-fn entry(out: &mut String, e: EntryRecord) -> Result<(), AllocError> {
+fn entry(rt: &impl Print, e: EntryRecord) {
     let kind = e.kind;
     let digits = e.digits;
-    print::decimal(out, kind_number(kind))?;
-    print::blank(out)?;
-    print::bytes(out, &digits, 1)?;
-    print::next(out, print::wide32(e.count))?;
-    print::line(out)
+    print::decimal(rt, kind_number(kind));
+    print::blank(rt);
+    print::bytes(rt, &digits, 1);
+    print::next(rt, print::wide32(e.count));
+    print::line(rt);
 }
 
 // A line for each entry.
-pub(crate) fn entries(out: &mut String, found: Entries) -> Result<(), AllocError> {
+pub(crate) fn entries(rt: &impl Print, found: Entries) {
     let end = least(found.count, segment::METERS);
     for i in 0..end {
-        entry(out, found.entries[i])?;
+        entry(rt, found.entries[i]);
     }
-    Ok(())
 }
