@@ -1,5 +1,5 @@
--- DEMAND 3, of the entry points of the static library on the language's machine: "one statement about the whole list,
--- not one for each call".
+-- DEMAND 3, of the library's calls on the language's machine: "one statement about the whole list, not one for each
+-- call". It holds in every environment of the machine that has the program's code.
 use Rattle.std.specs.Prelude.{◌≡◌, Bool, List, [], ◌∷◌, ℕ, Float, length}
 use mir.Val.{Val, vptr}
 use prog.AdequacyRun.{start_mem}

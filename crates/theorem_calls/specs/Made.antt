@@ -1,9 +1,9 @@
--- The machine makes a list of calls with the program's own routines: the entry points of the static library, and the
--- search over lent entry records.
+-- The machine makes a list of calls with the program's own routines: those of the library's calls, which the entry
+-- points of the static library hand on, and the search over lent entry records.
 -- The segment's image lies in one block from the first call to the last. No contract is named here, and nothing of
 -- the logic.
---     γ name               what the machine does at a call of that function, its routine. γ is any environment of
---                          routines that has the program's code
+--     γ name               what the machine does at a call of that function, its routine. γ, an environment, has a
+--                          routine for each name; it is any that has the program's code, below
 --     ends ρ vs σ v σ'     the machine, called at the routine ρ with the machine values vs in the memory σ, comes to
 --                          its end: it returns v, and the memory is then σ'. It ends in one way
 --     vptr b 0             a pointer to the first byte of block b
