@@ -31,11 +31,9 @@ returns-then-not-good_clock c =
 pub returns-then-not-handle_piece : goal.returns-then-not-handle_piece
 returns-then-not-handle_piece c =
     let a = c.args in
-    sent_as (send_settles a.piece.now a.clock (decode_image a.image.now) c.if-piece-gt-PIECE.false c.good_clock.ensures (ap not c.if-not-good_clock.false) refl)
-    (sent_full (came a.piece.now a.image.now c.handle_piece.new.image a.clock c.if-not-handle_piece.true c.handle_piece.ensures))
+    sent_as (send_settles a.piece.now a.clock (decode_image a.image.now) c.if-piece-gt-PIECE.false c.good_clock.ensures (ap not c.if-not-good_clock.false) refl) (sent_full (came a.piece.now a.image.now c.handle_piece.new.image a.clock c.if-not-handle_piece.true c.handle_piece.ensures))
 
 pub returns : goal.returns
 returns c =
     let a = c.args in
-    sent_as (send_settles a.piece.now a.clock (decode_image a.image.now) c.if-piece-gt-PIECE.false c.good_clock.ensures (ap not c.if-not-good_clock.false) refl)
-    (sent_fits (came a.piece.now a.image.now c.handle_piece.new.image a.clock c.if-not-handle_piece.false c.handle_piece.ensures) (c.due_of.ensures ∙ ap (λ x. due (parse x)) c.waiting-waits.ensures))
+    sent_as (send_settles a.piece.now a.clock (decode_image a.image.now) c.if-piece-gt-PIECE.false c.good_clock.ensures (ap not c.if-not-good_clock.false) refl) (sent_fits (came a.piece.now a.image.now c.handle_piece.new.image a.clock c.if-not-handle_piece.false c.handle_piece.ensures) (c.due_of.ensures ∙ ap (λ x. due (parse x)) c.waiting-waits.ensures))
