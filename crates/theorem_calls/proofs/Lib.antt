@@ -8,4 +8,5 @@ pub mod Routines
 pub mod Kept
 pub mod Step
 pub mod Every
+pub mod LinkedProgram
 pub mod Demand3

@@ -52,7 +52,7 @@ abbrev pub clock_then : Clock → List Val → List Val
 clock_then k vs = vfloat binary64 k.now ∷ vint w32 k.year ∷ vint w32 k.month ∷ vint w32 k.day ∷ vint w32 k.hour ∷ vint w32 k.minute ∷ vs
 
 -- γ has the program's code: at the name of each of these functions, and of each function that is called from them, it
--- does what that function's own code does
+-- does what that function's own code does. proofs/LinkedProgram makes such an environment of any look-up that has the code
 pub record HasProgram (γ : Env) : Type 0 where
   pub at_new : Wired γ new-code
   pub at_open : Wired γ open-code
