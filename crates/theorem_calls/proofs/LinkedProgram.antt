@@ -23,9 +23,15 @@ pub has_program : (look : Symbol → Entry) → HasT look true new-code → HasT
     → HasT look true clear-code → HasT look true set-baud-code → HasT look true search-code → HasT look true search-into-code → HasProgram (tie_t look)
 has_program look has_new has_open has_send has_receive has_clear has_set_baud has_search has_search_into =
     record {
-        at_new = wired new-code has_new; at_open = wired open-code has_open; at_send = wired send-code has_send;
-        at_receive = wired receive-code has_receive; at_clear = wired clear-code has_clear; at_set_baud = wired set-baud-code has_set_baud;
-        at_search = wired search-code has_search; at_search_into = wired search-into-code has_search_into }
-    where
-      wired : (c : Code) → HasT look true c → Wired (tie_t look) c
-      wired = has-wired_t look (tie_t look) (tie_t-follows look) (tie_t-threads look)
+      at_new = wired new-code has_new;
+      at_open = wired open-code has_open;
+      at_send = wired send-code has_send;
+      at_receive = wired receive-code has_receive;
+      at_clear = wired clear-code has_clear;
+      at_set_baud = wired set-baud-code has_set_baud;
+      at_search = wired search-code has_search;
+      at_search_into = wired search-into-code has_search_into;
+    }
+  where
+    wired : (c : Code) → HasT look true c → Wired (tie_t look) c
+    wired = has-wired_t look (tie_t look) (tie_t-follows look) (tie_t-threads look)
