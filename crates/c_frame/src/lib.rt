@@ -10,9 +10,9 @@ ghost use Rattle.frame_write.specs.View.{written_number, written_count};
 ghost use Rattle.c_frame.specs.Telegrams.{why_number_value, head_of, telegram_by, Parses, Writes};
 
 use frame::{Frame, ParseOutcome, Why};
-use frame_write::WriteOutcome;
-use laws::refused;
+use frame_write::WriteError;
 
+// The C interface gives the reasons these numbers.
 fn why_number(why: Why) -> u32
     ensures { result ≡ why_number_value (why_of why) }
 {
@@ -25,8 +25,10 @@ fn why_number(why: Why) -> u32
     }
 }
 
-fn head_of(frame: Frame) -> [u8; 4]
-    ensures { (d : List ℕ) → result ≡ head_of (telegram_of frame d) }
+// The kind, C, A and CI, as the C interface has them; 0 where there is none.
+#[tactic(auto, unfolding(crate::specs::Telegrams::head_of))]
+fn head_of(frame: Frame<'_>) -> [u8; 4]
+    ensures { result ≡ head_of (telegram_of frame.entry) }
 {
     match frame {
         Frame::Ack => [0, 0, 0, 0],
@@ -35,18 +37,20 @@ fn head_of(frame: Frame) -> [u8; 4]
             control,
             address,
             ci,
+            data: _,
         } => [2, control, address, ci],
     }
 }
 
+// The 16 bytes in which the C interface describes a telegram.
 fn description(head: [u8; 4], count: usize, used: usize) -> [u8; 16]
     ensures { result ≡ head ++ little 4 count ++ little 4 used ++ 0 ∷ 0 ∷ 0 ∷ 0 ∷ [] }
 {
-    let n = numbers::le4(count as u64);
-    let u = numbers::le4(used as u64);
+    let [kind, control, address, ci] = head;
+    let [n0, n1, n2, n3] = numbers::le4(count as u64);
+    let [u0, u1, u2, u3] = numbers::le4(used as u64);
     [
-        head[0], head[1], head[2], head[3], n[0], n[1], n[2], n[3], u[0], u[1], u[2], u[3], 0, 0,
-        0, 0,
+        kind, control, address, ci, n0, n1, n2, n3, u0, u1, u2, u3, 0, 0, 0, 0,
     ]
 }
 
@@ -56,41 +60,41 @@ pub fn parse(bytes: &[u8], out: &mut [u8; 16]) -> u32
     ensures { Parses (definitions.parse bytes.now) result out.old out.new }
 {
     match frame::parse(bytes) {
-        ParseOutcome::Complete { frame, len, used } => {
-            *out = description(head_of(frame), len, used);
+        ParseOutcome::Complete { frame, used } => {
+            *out = description(head_of(frame), frame.user_data().len(), used);
             0
         }
-        ParseOutcome::Incomplete { due } => 1 + 256 * (due as u32),
+        ParseOutcome::Incomplete { due } => 1 + 256 * u32::from(due),
         ParseOutcome::Invalid(why) => why_number(why),
     }
 }
 
-// Its data stand beside it.
-fn frame_by(kind: u8, control: u8, address: u8, ci: u8) -> Frame
-    ensures { (d : List ℕ) → telegram_of result d ≡ telegram_by kind control address ci d }
+// The C interface gives the kinds their numbers.
+#[tactic(auto, unfolding(crate::specs::Telegrams::telegram_by))]
+fn frame_by(kind: u8, control: u8, address: u8, ci: u8, data: &[u8]) -> Frame<'_>
+    ensures { telegram_of result ≡ telegram_by kind control address ci «data».now }
 {
-    if kind == 0 {
-        return Frame::Ack;
-    }
-    if kind == 1 {
-        return Frame::Short { control, address };
-    }
-    Frame::Long {
-        control,
-        address,
-        ci,
+    match kind {
+        0 => Frame::Ack,
+        1 => Frame::Short { control, address },
+        _ => Frame::Long {
+            control,
+            address,
+            ci,
+            data,
+        },
     }
 }
 
 // number * 65536 + bytes written
-fn packed_written(w: WriteOutcome) -> u32
+#[tactic(auto, using(crate::proofs::TelegramLaws::refusal_most))]
+fn packed_written(w: Result<usize, WriteError>) -> u32
     requires { written_count w < 65536 }
     ensures { result ≡ written_number w * 65536 + written_count w }
 {
     match w {
-        WriteOutcome::Bytes(n) => n as u32,
-        WriteOutcome::DataTooLong => refused::DATA * 65536,
-        WriteOutcome::NoRoom => refused::ROOM * 65536,
+        Ok(n) => n as u32,
+        Err(e) => e.number() * 65536,
     }
 }
 
@@ -98,6 +102,6 @@ fn packed_written(w: WriteOutcome) -> u32
 pub fn encode(kind: u8, control: u8, address: u8, ci: u8, data: &[u8], lent: &mut [u8]) -> u32
     ensures { Writes (write (telegram_by kind control address ci «data».now) lent.old) result lent.new }
 {
-    let f = frame_by(kind, control, address, ci);
-    packed_written(frame_write::encode(f, data, lent))
+    let frame = frame_by(kind, control, address, ci, data);
+    packed_written(frame_write::encode(frame, lent))
 }

@@ -21,15 +21,12 @@ pub fn search_image(
     ensures { Searches (search_by clock allowance entries.old (decode_image image.old)) result image.old image.new entries.old entries.new summary.old summary.new }
 {
     let room = entries.len() / 16;
-    let found = search::search_listed(image, clock, allowance, room);
-    let outcome = found.outcome;
-    let number = search::outcome_number(outcome);
-    if number != 0 {
-        return number;
+    match search::search_listed(image, clock, allowance, room) {
+        Ok(found) => {
+            entries::write_entries(&found.entries, found.count, entries);
+            *summary = entries::summary_of(found.count, found.probes, found.spent);
+            laws::refused::NOT_REFUSED
+        }
+        Err(error) => error.number(),
     }
-    let records = found.entries;
-    let count = found.count;
-    entries::write_entries(records, count, entries);
-    *summary = entries::summary_of(count, found.probes, found.spent);
-    0
 }

@@ -1,10 +1,8 @@
 -- Laws in the shape that code needs: the sum byte by byte, and parse case by case.
 use Rattle.std.specs.Prelude.{if◌then◌else◌}
-use Rattle.std.proofs.Common.{◌≡◌, ℕ, ◌+◌, ◌-◌, ◌%◌, ◌^◌, ◌<◌, ◌≤◌, eqb, List, [], ◌∷◌, ◌++◌, length, take, drop, sym, refl, ap, ◌∙◌, add-one, arith, length-drop, length-take-le, take-suc, le-ltb, lt-ltb, eq-eqb, ne_eqb}
+use Rattle.std.proofs.Common.{◌≡◌, ℕ, ◌+◌, ◌-◌, ◌%◌, ◌^◌, ◌<◌, ◌≤◌, eqb, List, [], ◌∷◌, ◌++◌, length, take, drop, sym, refl, ap, ◌∙◌, add-one, arith, take-suc, le-ltb, lt-ltb, eq-eqb, ne_eqb}
 use Rattle.laws.specs.Words.{at}
-use Rattle.frame.specs.declared.ParseOutcome.{ParseOutcome}
-use Rattle.frame.specs.View.{data_at, parsed_of, length_told, data_length, Finds}
-use Rattle.frame.specs.Frame.{ack, long, checksum, stop, header, bad_length, start, Parsed, complete, incomplete, invalid, added, sum, parse_short_value, parse_body, parse_long_value, parse}
+use Rattle.frame.specs.Frame.{ack, long, checksum, stop, header, bad_length, start, complete, incomplete, invalid, added, sum, parse_short_value, parse_body, parse_long_value, parse}
 use Rattle.frame.proofs.RoundTrip.{parse_long_is, parse_body-is, parse_body_fails}
 
 added_snoc : (xs : List ℕ) (x : ℕ) → added (xs ++ x ∷ []) ≡ added xs + x
@@ -26,13 +24,6 @@ sum_snoc xs x = rw (added_snoc xs x) (omega arith)
 -- one byte more of those at the front
 pub sum_more : (s : List ℕ) (i : ℕ) → i < length s → sum (take (i + 1) s) ≡ (sum (take i s) + at s i) % 2 ^ 8
 sum_more s i h = ap (λ n. sum (take n s)) (add-one i) ∙ ap sum (take-suc s i 0 h) ∙ sum_snoc (take i s) (at s i)
-
--- an outcome tells what was found where its number of data bytes is right for its own telegram
-pub found : {bs : List ℕ} {r : ParseOutcome} {p : Parsed} → parsed_of bs r ≡ p → length_told r ≡ data_length (parsed_of bs r) → Finds bs p r
-found e f = record { tells = e; counts = f ∙ ap data_length e }
-
-pub found_as : {bs : List ℕ} {r : ParseOutcome} {p q : Parsed} → Finds bs p r → p ≡ q → Finds bs q r
-found_as h e = record { tells = h.tells ∙ e; counts = h.counts ∙ ap data_length e }
 
 -- parse, by the byte in front
 pub parse-none : (bs : List ℕ) → length bs ≡ 0 → parse bs ≡ incomplete 1
@@ -92,11 +83,19 @@ pub record Whole (bs : List ℕ) (l : ℕ) : Type 0 where
   pub enough : 3 ≤ l
   pub there : l + 6 ≤ length bs
 
+-- by the tests of the code
+pub whole_at : (bs : List ℕ) (l : ℕ) → l ≡ at bs 1 → (at bs 2 ≡ at bs 1) × (at bs 3 ≡ 0x68) → 3 ≤ l → l + 6 ≤ length bs → Whole bs l
+whole_at bs l e head f g = record { counted = sym e; again = head.0 ∙ sym e; start = head.1; enough = f; there = g }
+
 whole_body : (bs : List ℕ) (l : ℕ) → Whole bs l → parse_long_value bs ≡ parse_body l bs
 whole_body bs l h = parse_long_is bs (omega arith) (h.again ∙ sym h.counted) h.start (omega arith) (omega arith) ∙ ap (λ n. parse_body n bs) h.counted
 
 pub long_sum_lem : (bs : List ℕ) (l : ℕ) → Whole bs l → (at bs (4 + l) ≡ sum (take l (drop 4 bs)) → ⊥) → parse_long_value bs ≡ invalid checksum
 long_sum_lem bs l h e = whole_body bs l h ∙ parse_body_fails l bs e
+
+-- the sum that the code makes, of the bytes from the fifth on
+pub summed : (bs : List ℕ) (l : ℕ) {total : ℕ} → total ≡ sum (take (4 + l - 4) (drop 4 bs)) → total ≡ sum (take l (drop 4 bs))
+summed bs l e = let f : 4 + l - 4 ≡ l = omega arith in e ∙ ap (λ n. sum (take n (drop 4 bs))) f
 
 pub long_stop : (bs : List ℕ) (l : ℕ) → Whole bs l → at bs (4 + l) ≡ sum (take l (drop 4 bs)) → (at bs (5 + l) ≡ 0x16 → ⊥) → parse_long_value bs ≡ invalid stop
 unfolding parse_body
@@ -105,7 +104,3 @@ long_stop bs l h e f = whole_body bs l h ∙ rw (eq-eqb (at bs (4 + l)) (sum (ta
 pub long_whole : (bs : List ℕ) (l : ℕ) → Whole bs l → at bs (4 + l) ≡ sum (take l (drop 4 bs)) → at bs (5 + l) ≡ 0x16
     → complete (long (at bs 4) (at bs 5) (at bs 6) (take (l - 3) (drop 7 bs))) (l + 6) ≡ parse_long_value bs
 long_whole bs l h e f = sym (whole_body bs l h ∙ parse_body-is l bs e f)
-
--- and all of its data are there
-pub whole_data : (bs : List ℕ) (l : ℕ) → Whole bs l → l - 3 ≡ length (data_at bs (l - 3))
-whole_data bs l h = sym (length-take-le (l - 3) (drop 7 bs) (omega (arith, length-drop 7 bs)))

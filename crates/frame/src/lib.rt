@@ -1,11 +1,10 @@
 // M-Bus link layer (EN 13757-2): telegrams, and how they are read from bytes.
 #![tactic(auto)]
 
-ghost use Rattle.std.specs.Prelude.{◌≡◌};
-ghost use Rattle.frame.specs.Frame.{sum, parse_short_value, parse_long_value};
-ghost use Rattle.frame.specs.View.{data_at, Finds};
-
-use laws::least;
+ghost use Rattle.std.specs.Prelude.{◌≡◌, ◌+◌, ◌-◌, ◌≤◌, length, take, drop};
+ghost use Rattle.laws.specs.Words.{at};
+ghost use Rattle.frame.specs.Frame.{data_of, long, sum, parse_short_value, parse_long_value};
+ghost use Rattle.frame.specs.View.{telegram_of, parsed_of};
 
 // The bytes of the protocol. They are those of specs/Protocol.antt.
 
@@ -62,16 +61,37 @@ pub const CI_VARIABLE: u8 = 0x72;
 
 pub const CI_FIXED: u8 = 0x73;
 
-// A telegram; the data of a long one stand beside it, as a part of a slice.
-#[derive(Clone, Copy)]
-pub enum Frame {
+// A telegram. The data of a long one are a part of the bytes that it was read from, or that it is to be written from.
+#[derive(Clone, Copy, PartialEq, Eq, Debug)]
+pub enum Frame<'a> {
     Ack,
-    Short { control: u8, address: u8 },
-    Long { control: u8, address: u8, ci: u8 },
+    Short {
+        control: u8,
+        address: u8,
+    },
+    Long {
+        control: u8,
+        address: u8,
+        ci: u8,
+        data: &'a [u8],
+    },
+}
+
+impl<'a> Frame<'a> {
+    // Its data: an ACK and a short telegram have none.
+    pub fn user_data(self) -> &'a [u8]
+        ensures { result.now ≡ data_of (telegram_of self.entry) }
+    {
+        match self {
+            Frame::Ack => &[],
+            Frame::Short { .. } => &[],
+            Frame::Long { data, .. } => data,
+        }
+    }
 }
 
 // Why bytes are no telegram.
-#[derive(Clone, Copy)]
+#[derive(Clone, Copy, PartialEq, Eq, Debug)]
 pub enum Why {
     Checksum,
     Stop,
@@ -80,145 +100,107 @@ pub enum Why {
     Start,
 }
 
-// What parsing finds: a telegram with the number of its data bytes, which `data_of` gives, and of all bytes used;
-// more bytes are needed, and how many at least; or the bytes are no telegram.
-#[derive(Clone, Copy)]
-pub enum ParseOutcome {
-    Complete {
-        frame: Frame,
-        len: usize,
-        used: usize,
-    },
-    Incomplete {
-        due: u16,
-    },
+// What parsing finds: a telegram and the number of bytes used; more bytes are needed, and how many at least; or the
+// bytes are no telegram. It is no `Result`: that more bytes are needed is no error, and the requirements speak of three
+// kinds.
+#[derive(Clone, Copy, PartialEq, Eq, Debug)]
+pub enum ParseOutcome<'a> {
+    Complete { frame: Frame<'a>, used: usize },
+    Incomplete { due: u16 },
     Invalid(Why),
 }
-
-// How many data bytes an ACK and a short telegram have: `parse` gives a number for every telegram.
-const ACK_DATA: usize = 0;
-
-const SHORT_DATA: usize = 0;
 
 // The sum modulo 256.
 pub fn checksum(bytes: &[u8]) -> u8
     ensures { result ≡ sum bytes.now }
 {
     let mut total: u8 = 0;
-    let mut i: usize = 0;
-    while i < bytes.len() {
-        total = std::num::wrapping_add_u8(total, bytes[i]);
-        i += 1;
+    for byte in bytes {
+        total = total.wrapping_add(*byte);
     }
     total
 }
 
-// A byte as a number of bytes.
-fn wide(b: u8) -> usize
-    ensures { result ≡ b }
+// Bytes that begin with 10.
+#[tactic(auto, using(crate::proofs::Cases::sum_two), unfolding(crate::specs::Frame::parse_short_value))]
+fn parse_short(s: &[u8]) -> ParseOutcome<'_>
+    ensures { parsed_of result ≡ parse_short_value s.now }
 {
-    b as usize
+    let &[_, control, address, total, stop, ..] = s else {
+        return ParseOutcome::Incomplete {
+            due: (5 - s.len()) as u16,
+        };
+    };
+    if total != control.wrapping_add(address) {
+        ParseOutcome::Invalid(Why::Checksum)
+    } else if stop != STOP {
+        ParseOutcome::Invalid(Why::Stop)
+    } else {
+        ParseOutcome::Complete {
+            frame: Frame::Short { control, address },
+            used: 5,
+        }
+    }
 }
 
-// Bytes that begin with 10.
-fn parse_short(s: &[u8]) -> ParseOutcome
-    ensures { Finds s.now (parse_short_value s.now) result }
+// A long telegram that counts l bytes, all of which are there.
+fn long_frame(s: &[u8], l: usize) -> Frame<'_>
+    requires { (3 ≤ l) × (l + 6 ≤ length s.now) }
+    ensures { telegram_of result ≡ long (at s.now 4) (at s.now 5) (at s.now 6) (take (l - 3) (drop 7 s.now)) }
 {
-    if s.len() < 5 {
-        let rest = 5 - s.len();
-        let due = rest as u16;
-        return ParseOutcome::Incomplete { due };
-    }
-    let c = s[1];
-    let a = s[2];
-    if s[3] != std::num::wrapping_add_u8(c, a) {
-        return ParseOutcome::Invalid(Why::Checksum);
-    }
-    if s[4] != STOP {
-        return ParseOutcome::Invalid(Why::Stop);
-    }
-    ParseOutcome::Complete {
-        frame: Frame::Short {
-            control: c,
-            address: a,
-        },
-        len: SHORT_DATA,
-        used: 5,
+    Frame::Long {
+        control: s[4],
+        address: s[5],
+        ci: s[6],
+        data: &s[7..4 + l],
     }
 }
 
 // Bytes that begin with 68.
-fn parse_long(s: &[u8]) -> ParseOutcome
-    ensures { Finds s.now (parse_long_value s.now) result }
+fn parse_long(s: &[u8]) -> ParseOutcome<'_>
+    ensures { parsed_of result ≡ parse_long_value s.now }
 {
-    if s.len() < 4 {
-        let rest = 4 - s.len();
-        let due = rest as u16;
-        return ParseOutcome::Incomplete { due };
-    }
-    let l = wide(s[1]);
-    if wide(s[2]) != l {
-        return ParseOutcome::Invalid(Why::Header);
-    }
-    if s[3] != START_LONG {
-        return ParseOutcome::Invalid(Why::Header);
-    }
-    if l < 3 {
-        return ParseOutcome::Invalid(Why::Length);
-    }
+    let &[_, length, again, start, ..] = s else {
+        return ParseOutcome::Incomplete {
+            due: (4 - s.len()) as u16,
+        };
+    };
+    let l = usize::from(length);
     let all = l + 6;
-    if s.len() < all {
-        let rest = all - s.len();
-        let due = rest as u16;
-        return ParseOutcome::Incomplete { due };
-    }
-    let total = checksum(&s[4..4 + l]);
-    if s[4 + l] != total {
-        return ParseOutcome::Invalid(Why::Checksum);
-    }
-    if s[5 + l] != STOP {
-        return ParseOutcome::Invalid(Why::Stop);
-    }
-    ParseOutcome::Complete {
-        frame: Frame::Long {
-            control: s[4],
-            address: s[5],
-            ci: s[6],
-        },
-        len: l - 3,
-        used: all,
+    if again != length || start != START_LONG {
+        ParseOutcome::Invalid(Why::Header)
+    } else if l < 3 {
+        ParseOutcome::Invalid(Why::Length)
+    } else if s.len() < all {
+        ParseOutcome::Incomplete {
+            due: (all - s.len()) as u16,
+        }
+    } else if s[4 + l] != checksum(&s[4..4 + l]) {
+        ParseOutcome::Invalid(Why::Checksum)
+    } else if s[5 + l] != STOP {
+        ParseOutcome::Invalid(Why::Stop)
+    } else {
+        ParseOutcome::Complete {
+            frame: long_frame(s, l),
+            used: all,
+        }
     }
 }
 
 // The telegram in front of some bytes.
-pub fn parse(s: &[u8]) -> ParseOutcome
-    ensures { Finds s.now (Rattle.frame.specs.Frame.parse s.now) result }
+pub fn parse(s: &[u8]) -> ParseOutcome<'_>
+    ensures { parsed_of result ≡ Rattle.frame.specs.Frame.parse s.now }
 {
-    if s.len() == 0 {
+    let &[first, ..] = s else {
         return ParseOutcome::Incomplete { due: 1 };
-    }
-    let b = s[0];
-    if b == ACK {
-        return ParseOutcome::Complete {
+    };
+    match first {
+        ACK => ParseOutcome::Complete {
             frame: Frame::Ack,
-            len: ACK_DATA,
             used: 1,
-        };
+        },
+        START_SHORT => parse_short(s),
+        START_LONG => parse_long(s),
+        _ => ParseOutcome::Invalid(Why::Start),
     }
-    if b == START_SHORT {
-        return parse_short(s);
-    }
-    if b == START_LONG {
-        return parse_long(s);
-    }
-    ParseOutcome::Invalid(Why::Start)
-}
-
-// The data of a long telegram in front of some bytes, as a part of them; fewer where the bytes end before.
-pub fn data_of(s: &[u8], len: usize) -> &[u8]
-    ensures { result.now ≡ data_at s.now len }
-{
-    let from = least(7, s.len());
-    let n = least(len, s.len() - from);
-    &s[from..from + n]
 }

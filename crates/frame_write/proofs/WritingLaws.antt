@@ -1,10 +1,9 @@
 -- Laws in the shape that the writer needs: write case by case, and a long telegram put together from its parts.
-use Rattle.std.proofs.Common.{◌≡◌, ℕ, suc, ◌+◌, ◌%◌, ◌^◌, ◌<◌, ◌≤◌, List, [], ◌∷◌, ◌++◌, length, take, drop, set, sym, refl, ap, ◌∙◌, ap₂, append_assoc, add-one, arith, drop-drop, le-ltb, lt-ltb}
-use lib.Seq.{take-append_seam, drop-append-add, sets-eq}
-use Rattle.frame.specs.View.{telegram_of}
-use Rattle.frame.specs.declared.Frame.{Frame}
+use Rattle.std.proofs.Common.{◌≡◌, ℕ, suc, ◌+◌, ◌%◌, ◌^◌, ◌<◌, ◌≤◌, List, [], ◌∷◌, ◌++◌, length, take, drop, refl, ap, ◌∙◌, ap₂, arith, drop-drop, le-ltb, lt-ltb}
+use lib.Seq.{take-append_seam, drop-append-add}
+use Rattle.frame.proofs.Cases.{sum_two}
 use Rattle.frame.specs.Frame.{Telegram, ack, short, long, sum, encode, data_of}
-use Rattle.frame_write.specs.Writer.{WriteOutcome, write}
+use Rattle.frame_write.specs.Writer.{write}
 
 module _ (t : Telegram) (lent : List ℕ) where
   pub write_too_long : 252 < length (data_of t) → record { number = 11; count = 0; lent = lent } ≡ write t lent
@@ -20,10 +19,6 @@ module _ (t : Telegram) (lent : List ℕ) where
   unfolding write
   write-fits n after e h k f = rw (le-ltb 252 (length (data_of t)) h, e, le-ltb (length lent) n k, f)
 
--- a frame that is known by its kind
-pub of_frame : (d lent : List ℕ) {f g : Frame} {w : WriteOutcome} → f ≡ g → w ≡ write (telegram_of g d) lent → w ≡ write (telegram_of f d) lent
-of_frame d lent e h = rw e h
-
 pub length_ack : length (encode ack) ≡ 1
 unfolding encode
 length_ack = refl
@@ -37,9 +32,10 @@ pub sum_long : (c a ci : ℕ) (d : List ℕ) → (((c + a) % 2 ^ 8 + ci) % 2 ^ 8
 unfolding sum
 sum_long c a ci d = omega arith
 
--- two bytes stored one after the other
-pub two_put : (l : List ℕ) (n a b : ℕ) → n + 2 ≤ length l → set (set l n a) (n + 1) b ≡ take n l ++ a ∷ b ∷ drop (n + 2) l
-two_put l n a b h = ap (λ k. set (set l n a) k b) (add-one n) ∙ sets-eq (a ∷ b ∷ []) l n h ∙ append_assoc (take n l) (a ∷ b ∷ []) (drop (n + 2) l)
+-- a short telegram, put down whole
+pub short_put : (c a : ℕ) (l : List ℕ) {after : List ℕ} → after ≡ 0x10 ∷ c ∷ a ∷ ((c + a) % 2 ^ 8) ∷ 0x16 ∷ drop 5 l → after ≡ encode (short c a) ++ drop 5 l
+unfolding encode
+short_put c a l e = rw sum_two e
 
 -- the head, the data behind it, and the end behind these
 seven : (n : ℕ) → 7 + n ≡ suc (suc (suc (suc (suc (suc (suc n))))))
@@ -58,16 +54,15 @@ module _ (c a ci : ℕ) (d lent : List ℕ) where
   past : drop 2 (drop (length d) (drop 7 lent)) ≡ drop (length d + 9) lent
   past = let e : 7 + length d + 2 ≡ length d + 9 = omega arith in ap (drop 2) (drop-drop (length d) 7 lent) ∙ drop-drop 2 (7 + length d) lent ∙ ap (λ n. drop n lent) e
 
-  pub long_put : (h₁ h₂ h₃ : List ℕ) → h₁ ≡ headed (drop 7 lent) → h₂ ≡ take 7 h₁ ++ d ++ drop (7 + length d) h₁
-      → h₃ ≡ take (length d + 7) h₂ ++ sum (c ∷ a ∷ ci ∷ d) ∷ 0x16 ∷ drop (length d + 7 + 2) h₂
+  pub long_put : (s : ℕ) (h₁ h₂ h₃ : List ℕ) → s ≡ sum (c ∷ a ∷ ci ∷ d) → h₁ ≡ headed (drop 7 lent) → h₂ ≡ take 7 h₁ ++ d ++ drop (7 + length d) h₁
+      → h₃ ≡ take (length d + 7) h₂ ++ (s ∷ 0x16 ∷ []) ++ drop (length d + 7 + 2) h₂
       → h₃ ≡ encode (long c a ci d) ++ drop (length d + 9) lent
   unfolding encode
-  long_put h₁ h₂ h₃ e f g =
+  long_put s h₁ h₂ h₃ k e f g =
       let rest = drop (length d) (drop 7 lent) in
-      let s = sum (c ∷ a ∷ ci ∷ d) in
       let q : h₂ ≡ headed (d ++ rest) = f ∙ ap (λ h. take 7 h ++ d ++ drop (7 + length d) h) e ∙ rw seven in
       let t : take (length d + 7) (headed (d ++ rest)) ≡ headed d = rw seven' (ap headed (take-append_seam d rest)) in
       let u : drop (length d + 7 + 2) (headed (d ++ rest)) ≡ drop (length d + 9) lent = rw nine (drop-append-add d rest 2 ∙ past) in
-      g ∙ ap (λ h. take (length d + 7) h ++ s ∷ 0x16 ∷ drop (length d + 7 + 2) h) q
-      ∙ ap₂ (λ x y. x ++ s ∷ 0x16 ∷ y) t u
-      ∙ ap headed (sym (append_assoc d (s ∷ 0x16 ∷ []) (drop (length d + 9) lent)))
+      g ∙ ap (λ h. take (length d + 7) h ++ (s ∷ 0x16 ∷ []) ++ drop (length d + 7 + 2) h) q
+      ∙ ap₂ (λ x y. x ++ (s ∷ 0x16 ∷ []) ++ y) t u
+      ∙ ap (λ (n : ℕ). headed (d ++ (n ∷ 0x16 ∷ []) ++ drop (length d + 9) lent)) k

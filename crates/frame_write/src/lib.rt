@@ -4,23 +4,35 @@
 ghost use Rattle.std.specs.Prelude.{◌≡◌};
 ghost use Rattle.frame.specs.View.{telegram_of};
 ghost use Rattle.frame_write.specs.Writer.{write};
-ghost use Rattle.frame_write.specs.View.{written_of};
+ghost use Rattle.frame_write.specs.View.{refusal_number, written_of};
 
 use frame::Frame;
+use laws::refused;
 
 mod writing; // writing.rt: each kind of telegram written into lent bytes
 
-// What writing answers: the number of bytes written, or a refusal.
-#[derive(Clone, Copy)]
-pub enum WriteOutcome {
-    Bytes(usize),
+// Why the writer refuses.
+#[derive(Clone, Copy, PartialEq, Eq, Debug)]
+pub enum WriteError {
     DataTooLong,
     NoRoom,
 }
 
-// The telegram into the first of the lent bytes, with the data beside it where it is long; a refusal writes nothing.
-pub fn encode(f: Frame, data: &[u8], lent: &mut [u8]) -> WriteOutcome
-    ensures { written_of result lent.new ≡ write (telegram_of f «data».now) lent.old }
+impl WriteError {
+    // 01's number of the refusal.
+    pub fn number(self) -> u32
+        ensures { result ≡ refusal_number self }
+    {
+        match self {
+            WriteError::DataTooLong => refused::DATA,
+            WriteError::NoRoom => refused::ROOM,
+        }
+    }
+}
+
+// The telegram into the first of the lent bytes: how many were written. A refusal writes nothing.
+pub fn encode(f: Frame<'_>, lent: &mut [u8]) -> Result<usize, WriteError>
+    ensures { written_of result lent.new ≡ write (telegram_of f.entry) lent.old }
 {
     match f {
         Frame::Ack => writing::encode_ack(lent),
@@ -29,6 +41,7 @@ pub fn encode(f: Frame, data: &[u8], lent: &mut [u8]) -> WriteOutcome
             control,
             address,
             ci,
+            data,
         } => writing::encode_long(control, address, ci, data, lent),
     }
 }

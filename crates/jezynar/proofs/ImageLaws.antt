@@ -1,20 +1,22 @@
 -- What an opening, a send and an export answer, packed into one number.
+use Rattle.std.specs.Prelude.{Result, Ok, Err}
 use mathlib.Core.Path.{◌≡◌, ap, ◌∙◌}
 use mathlib.Core.Bool.{Bool}
+use Rattle.std.specs.Prelude.{Result, Ok, Err}
 use mathlib.Core.List.{List}
 use Prim.Native.Nat.{ℕ, ◌<◌}
 use native.Mathlib.Omega.{arith}
 use Rattle.list_open.specs.Opening.{most_meters, Opened, opens, refuses, index_in, open_list_value}
-use Rattle.list_check.specs.Refusals.{refusal_number_value}
+use Rattle.list_check.specs.Refusals.{error_number, refusal_number_value}
 use Rattle.list_check.specs.declared.refusal.Refusal.{Refusal}
-use Rattle.list_check.specs.declared.refusal.Refusal.TheVariants.{Accepted, Version, Length, Capacity, AtRecord, Baud}
+use Rattle.list_check.specs.declared.refusal.Refusal.TheVariants.{Version, Length, Capacity, AtRecord, Baud}
 use Rattle.segment.specs.Plain.{Plain}
 use Rattle.segment_send.specs.View.{sending_number_value}
-use Rattle.segment_send.specs.declared.Sending.{Sending}
-use Rattle.segment_send.specs.declared.Sending.TheVariants as sending
+use Rattle.segment_send.specs.declared.SendError.{SendError}
+use Rattle.segment_send.specs.declared.SendError.TheVariants as sending
 use Rattle.segment_export.specs.View.{exporting_number_value}
-use Rattle.segment_export.specs.declared.Exporting.{Exporting}
-use Rattle.segment_export.specs.declared.Exporting.TheVariants as exporting
+use Rattle.segment_export.specs.declared.ExportError.{ExportError}
+use Rattle.segment_export.specs.declared.ExportError.TheVariants as exporting
 use Rattle.segment_image.specs.Image.{encode_image, IsImage}
 use Rattle.list_check.proofs.VerdictLaws.{failing_between}
 use Rattle.list_open.proofs.OpeningLaws.{OpensWell, open_list_well}
@@ -31,25 +33,28 @@ opening_index list bus practice {i} e = go (open_list_value list bus practice) (
     go (opens ms) w n = omega (arith, n)
     go (refuses number index) w n = omega (arith, w.1, n)
 
-pub number_small : (a : Refusal) → refusal_number_value a < 256
-number_small Accepted = omega arith
-number_small Version = omega arith
-number_small Length = omega arith
-number_small Capacity = omega arith
-number_small (AtRecord f i) = omega (arith, failing_between f)
-number_small Baud = omega arith
+error_small : (e : Refusal) → error_number e < 256
+error_small Version = omega arith
+error_small Length = omega arith
+error_small Capacity = omega arith
+error_small (AtRecord f i) = omega (arith, failing_between f)
+error_small Baud = omega arith
+
+pub number_small : {T : Type 0} (a : Result T Refusal) → refusal_number_value a < 256
+number_small (Ok x) = omega arith
+number_small (Err e) = error_small e
 
 -- ---- send: the number
 
-pub sending_small : (a : Sending) → sending_number_value a < 256
-sending_small (sending.Accepted n) = omega arith
-sending_small sending.PieceTooLong = omega arith
-sending_small sending.ClockOutOfRange = omega arith
-sending_small sending.QueueFull = omega arith
+pub sending_small : (a : Result ℕ SendError) → sending_number_value a < 256
+sending_small (Ok n) = omega arith
+sending_small (Err sending.PieceTooLong) = omega arith
+sending_small (Err sending.ClockOutOfRange) = omega arith
+sending_small (Err sending.QueueFull) = omega arith
 
 -- ---- export: the number
 
-pub exporting_small : (a : Exporting) → exporting_number_value a < 256
-exporting_small (exporting.Bytes n) = omega arith
-exporting_small exporting.HighPrimary = omega arith
-exporting_small exporting.NoRoom = omega arith
+pub exporting_small : (a : Result ℕ ExportError) → exporting_number_value a < 256
+exporting_small (Ok n) = omega arith
+exporting_small (Err exporting.HighPrimary) = omega arith
+exporting_small (Err exporting.NoRoom) = omega arith

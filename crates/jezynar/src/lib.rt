@@ -21,9 +21,9 @@ ghost use Rattle.c_frame.specs.Telegrams.{Parses, telegram_by, Writes};
 
 use list_check::refusal::Refusal;
 use segment::Segment;
-use segment_export::Exporting;
+use segment_export::ExportError;
 use segment_image::IMAGE;
-use segment_send::Sending;
+use segment_send::SendError;
 use time_clock::clock_at;
 
 const LEN: usize = IMAGE;
@@ -66,12 +66,12 @@ pub fn jezynar_segment_set_baud(image: &mut [u8; IMAGE], baud: u32) -> u32
 }
 
 // number + 256 * index
-fn packed(refusal: Refusal) -> u32
-    requires { refusal_index_value refusal < most_meters }
-    ensures { result ≡ refusal_number_value refusal + 256 * refusal_index_value refusal }
+fn packed(answer: Result<(), Refusal>) -> u32
+    requires { refusal_index_value answer < most_meters }
+    ensures { result ≡ refusal_number_value answer + 256 * refusal_index_value answer }
 {
-    let index = list_check::refusal::refusal_index(refusal);
-    let number = list_check::refusal::refusal_number(refusal);
+    let index = list_check::refusal::refusal_index(answer);
+    let number = list_check::refusal::refusal_number(answer);
     number + 256 * (index as u32)
 }
 
@@ -85,17 +85,17 @@ pub fn jezynar_segment_open(
 ) -> u32
     ensures { OpenedImage list.now baud practice origin (result % 256) (result / 256) image.old image.new }
 {
-    let refusal = segment_calls::open(image, list, baud, practice, origin);
-    packed(refusal)
+    let answer = segment_calls::open(image, list, baud, practice, origin);
+    packed(answer)
 }
 
 // number * 65536 + due
-fn packed_sent(answer: Sending) -> u32
+fn packed_sent(answer: Result<u16, SendError>) -> u32
     ensures { (result ≡ sending_number_value answer * 65536 + sending_due_value answer) × (sending_due_value answer < 65536) }
 {
     let number = segment_send::sending_number(answer);
     let due = segment_send::sending_due(answer);
-    number * 65536 + (due as u32)
+    number * 65536 + u32::from(due)
 }
 
 // Sends a piece at a clock. 13: piece over 1,024; 14: a clock field out of range; 15: queue would pass 4,096.
@@ -125,12 +125,12 @@ pub fn jezynar_segment_receive(image: &mut [u8; IMAGE], lent: &mut [u8]) -> usiz
 }
 
 // number * 65536 + bytes
-fn packed_exported(answer: Exporting) -> u32
+fn packed_exported(answer: Result<u16, ExportError>) -> u32
     ensures { (result ≡ exporting_number_value answer * 65536 + exporting_count_value answer) × (exporting_count_value answer < 65536) }
 {
     let number = segment_export::exporting_number(answer);
     let count = segment_export::exporting_count(answer);
-    number * 65536 + (count as u32)
+    number * 65536 + u32::from(count)
 }
 
 // Writes the present meters as a list, to be opened at the bus baud. 18: a primary above 250; 12: lent bytes too few.

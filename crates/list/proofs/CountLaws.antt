@@ -1,121 +1,83 @@
--- Counting the records from a position on: the loop's invariant, a turn, the two ends.
-use Rattle.std.specs.Prelude.{if◌then◌else◌}
+-- Counting the records: the loop's invariant, a turn, the two ends.
+use Rattle.std.specs.Prelude.{Result, Ok, Err}
 use mathlib.Core.Path.{◌≡◌, refl, sym, ap, ◌∙◌}
-use mathlib.Core.Bool.{Bool, true, false}
 use mathlib.Core.List.{List}
 use Prim.Native.Nat.{ℕ, ◌+◌, ◌-◌, ◌*◌, ◌≤◌, ◌<◌}
 use native.Mathlib.Nat.{add-zero}
 use native.Mathlib.Omega.{arith}
-use lib.Dec.{eqb, leb, ltb}
-use lib.ListN.{length, drop, length-drop}
-use borrow.Author.Tests.{leb-true, leb-false, ltb-true, ltb-false, lt-ltb, le-ltb, eq-eqb, ne_eqb}
+use lib.ListN.{length, take, drop, length-drop}
+use lib.Seq.{take-length}
+use borrow.Author.Tests.{lt-ltb, le-ltb, eq-eqb, ne_eqb}
 use Rattle.laws.specs.Words.{at}
 use Rattle.list.specs.Layout.{Listed, Layout, fits, no_fit, read_records}
-use Rattle.list.specs.declared.Listed.{Listed as Placed}
-use Rattle.list.specs.declared.Step.TheVariants.{Record, Bad, End}
-use Rattle.list.specs.declared.Shape.{Shape}
-use Rattle.list.specs.declared.Shape.TheVariants.{Fits, Unversioned, Unfit}
-use Rattle.list.specs.ProgramReading.{listed_of, text_end_value, record_to_value, step_at, shape_of_count, shape_of}
-use Rattle.list.proofs.StepLaws.{step_end, step_short, step_over, step_record}
-use Rattle.list.proofs.ReadLaws.{more, after_step, step_reads, reads_enough}
-
--- ---- a record moves on
-
-pub record Onward (s : List ℕ) (a x : ℕ) : Type 0 where
-  pub before : a < x
-  pub within : x ≤ length s
-
-to_end : (s : List ℕ) (a e : ℕ) (r : Placed) (x : ℕ) → Record r x ≡ record_to_value s a e → x ≡ e
-unfolding record_to_value
-to_end s a e r x q = go _ (eqb (text_end_value s e (text_end_value s e (text_end_value s e (text_end_value s e (a + 7))))) e) q
-  where
-    go : (t : Placed) (b : Bool) → Record r x ≡ (if b then Record t e else Bad) → x ≡ e
-    go t true f = cc
-    go t false f = let z : ◌≡◌ {A = ℕ} 0 1 = cc in absurd (omega arith)
-
-pub step_onward : (s : List ℕ) (a : ℕ) (r : Placed) (x : ℕ) → Record r x ≡ step_at s a → Onward s a x
-step_onward s a r x q = past (leb (length s) a) refl
-  where
-    fitted : a < length s → 6 ≤ at s a → at s a < length s - a → Onward s a x
-    fitted h l m =
-        let e = to_end s a (a + 1 + at s a) r x (q ∙ sym (step_record s a (at s a) h refl l m)) in
-        record { before = omega arith; within = omega arith }
-
-    over : a < length s → 6 ≤ at s a → (b : Bool) → leb (length s - a) (at s a) ≡ b → Onward s a x
-    over h l true t =
-        let f = step_over s a (at s a) h refl l (leb-true (length s - a) (at s a) t) in let z : ◌≡◌ {A = ℕ} 0 1 = cc in absurd (omega arith)
-    over h l false t = fitted h l (leb-false (length s - a) (at s a) t)
-
-    short : a < length s → (b : Bool) → ltb (at s a) 6 ≡ b → Onward s a x
-    short h true t = let f = step_short s a (at s a) h refl (ltb-true (at s a) 6 t) in let z : ◌≡◌ {A = ℕ} 0 1 = cc in absurd (omega arith)
-    short h false t = over h (ltb-false (at s a) 6 t) (leb (length s - a) (at s a)) refl
-
-    past : (b : Bool) → leb (length s) a ≡ b → Onward s a x
-    past true t = let f = step_end s a (leb-true (length s) a t) in let z : ◌≡◌ {A = ℕ} 0 1 = cc in absurd (omega arith)
-    past false t = short (leb-false (length s) a t) (ltb (at s a) 6) refl
-
--- ---- the records from a position on
-
--- all the records of a list's bytes from a position on
-abbrev pub read_from : List ℕ → ℕ → Layout
-read_from s a = read_records (length s) (drop a s)
-
-pub from_step : (s : List ℕ) (a : ℕ) → read_from s a ≡ after_step s (length s) (step_at s a)
-from_step s a = sym (reads_enough (length s) (drop a s) (rw length-drop (omega arith))) ∙ step_reads s (length s) a
+use Rattle.list.specs.declared.LayoutError.{LayoutError}
+use Rattle.list.specs.declared.LayoutError.TheVariants.{Unversioned, Unfit}
+use Rattle.list.specs.ProgramReading.{count_of, layout_value, one, bad, end, step}
+use Rattle.list.proofs.ReadLaws.{more, after_step, step_reads, step_shorter, reads_enough, enough}
 
 -- k records more
-abbrev plus : ℕ → Shape → Shape
-plus k (Fits n) = Fits (k + n)
-plus k Unversioned = Unversioned
-plus k Unfit = Unfit
+abbrev plus : ℕ → Result ℕ LayoutError → Result ℕ LayoutError
+plus k (Ok n) = Ok (k + n)
+plus k (Err e) = Err e
 
-plus_zero : (x : Shape) → x ≡ plus 0 x
-plus_zero (Fits n) = ap Fits (omega arith)
-plus_zero Unversioned = refl
-plus_zero Unfit = refl
+plus_zero : (x : Result ℕ LayoutError) → x ≡ plus 0 x
+plus_zero (Ok n) = ap (λ (k : ℕ). Ok k) (omega arith)
+plus_zero (Err e) = refl
 
-plus_more : (k : ℕ) (r : Listed) (x : Layout) → plus k (shape_of_count (more r x)) ≡ plus (k + 1) (shape_of_count x)
+plus_more : (k : ℕ) (r : Listed) (x : Layout) → plus k (count_of (more r x)) ≡ plus (k + 1) (count_of x)
 plus_more k r no_fit = refl
-plus_more k r (fits rs) = ap Fits (omega arith)
+plus_more k r (fits rs) = ap (λ (k : ℕ). Ok k) (omega arith)
 
-pub record Counted (s : List ℕ) (from a k : ℕ) : Type 0 where
-  pub within : a ≤ length s
-  pub few : k ≤ a
-  pub is : shape_of_count (read_from s from) ≡ plus k (shape_of_count (read_from s a))
+-- k records are read, and these bytes are left
+pub record Counted (all rest : List ℕ) (k : ℕ) : Type 0 where
+  pub few : k + length rest ≤ length all
+  pub is : count_of (read_records (length all) all) ≡ plus k (count_of (read_records (length all) rest))
 
-pub counted_none : (s : List ℕ) (from : ℕ) → from ≤ length s → Counted s from from 0
-counted_none s from h = record { within = h; few = omega arith; is = plus_zero (shape_of_count (read_from s from)) }
+pub counted_none : (all : List ℕ) → Counted all all 0
+counted_none all = record { few = omega arith; is = plus_zero (count_of (read_records (length all) all)) }
 
-module _ {s : List ℕ} {from a k : ℕ} (c : Counted s from a k) where
-  pub counted_more : (r : Placed) (x : ℕ) → Record r x ≡ step_at s a → Counted s from x (k + 1)
-  counted_more r x q =
-      let o = step_onward s a r x q in
+module _ {all rest : List ℕ} {k : ℕ} (c : Counted all rest k) where
+  next : {n : ℕ} → n ≡ length all → read_records n rest ≡ after_step n (step rest)
+  next {n} e = sym (reads_enough n rest (omega (arith, c.few))) ∙ step_reads n rest
+
+  pub counted_more : {r : Listed} {left : List ℕ} → one r left ≡ step rest → Counted all left (k + 1)
+  counted_more {r} {left} q =
       record {
-        within = o.within;
-        few = omega (arith, o.before, c.few);
-        is = c.is ∙ ap (λ (y : Layout). plus k (shape_of_count y)) (from_step s a ∙ ap (after_step s (length s)) (sym q)) ∙ plus_more k (listed_of s r) (read_from s x);
+        few = omega (arith, c.few, step_shorter rest q);
+        is = c.is ∙ ap (λ (y : Layout). plus k (count_of y)) (next refl ∙ ap (after_step (length all)) (sym q)) ∙ plus_more k r (read_records (length all) left);
       }
 
-  pub counted_bad : Bad ≡ step_at s a → Unfit ≡ shape_of_count (read_from s from)
-  counted_bad q = sym (c.is ∙ ap (λ (y : Layout). plus k (shape_of_count y)) (from_step s a ∙ ap (after_step s (length s)) (sym q)))
+  pub counted_bad : bad ≡ step rest → Err Unfit ≡ count_of (read_records (length all) all)
+  counted_bad q = sym (c.is ∙ ap (λ (y : Layout). plus k (count_of y)) (next refl ∙ ap (after_step (length all)) (sym q)))
 
-  pub counted_end : End ≡ step_at s a → Fits k ≡ shape_of_count (read_from s from)
-  counted_end q = sym (c.is ∙ ap (λ (y : Layout). plus k (shape_of_count y)) (from_step s a ∙ ap (after_step s (length s)) (sym q)) ∙ ap Fits (add-zero k))
+  pub counted_end : end ≡ step rest → Ok k ≡ count_of (read_records (length all) all)
+  counted_end q = sym (c.is ∙ ap (λ (y : Layout). plus k (count_of y)) (next refl ∙ ap (after_step (length all)) (sym q)) ∙ ap (λ (k : ℕ). Ok k) (add-zero k))
 
 -- ---- the whole list
 
-pub shape_short : (bs : List ℕ) → length bs < 3 → Unversioned ≡ shape_of bs
-unfolding shape_of
-shape_short bs h = rw (lt-ltb (length bs) 3 h)
+-- the bytes behind the first three, as the program's pattern has them
+behind_three : (bs : List ℕ) → take (length bs - 3) (drop 3 bs) ≡ drop 3 bs
+behind_three bs = ap (λ (n : ℕ). take n (drop 3 bs)) (sym (length-drop 3 bs)) ∙ take-length (drop 3 bs)
 
-pub shape_version : (bs : List ℕ) → 3 ≤ length bs → (at bs 0 ≡ 1 → ⊥) → Unversioned ≡ shape_of bs
-unfolding shape_of
-shape_version bs h v = rw (le-ltb (length bs) 3 h, ne_eqb (at bs 0) 1 v)
+pub layout_short : (bs : List ℕ) → length bs < 3 → Err Unversioned ≡ layout_value bs
+unfolding layout_value
+layout_short bs h = rw (lt-ltb (length bs) 3 h)
 
-pub shape_length : (bs : List ℕ) → 3 ≤ length bs → at bs 0 ≡ 1 → (at bs 1 * 256 + at bs 2 ≡ length bs - 3 → ⊥) → Unfit ≡ shape_of bs
-unfolding shape_of
-shape_length bs h v l = rw (le-ltb (length bs) 3 h, eq-eqb (at bs 0) 1 v, ne_eqb (at bs 1 * 256 + at bs 2) (length bs - 3) l)
+pub layout_version : (bs : List ℕ) → 3 ≤ length bs → (at bs 0 ≡ 1 → ⊥) → Err Unversioned ≡ layout_value bs
+unfolding layout_value
+layout_version bs h v = rw (le-ltb (length bs) 3 h, ne_eqb (at bs 0) 1 v)
 
-pub shape_records : (bs : List ℕ) → 3 ≤ length bs → at bs 0 ≡ 1 → at bs 1 * 256 + at bs 2 ≡ length bs - 3 → shape_of_count (read_from bs 3) ≡ shape_of bs
-unfolding shape_of
-shape_records bs h v l = rw (le-ltb (length bs) 3 h, eq-eqb (at bs 0) 1 v, eq-eqb (at bs 1 * 256 + at bs 2) (length bs - 3) l)
+module _ (bs : List ℕ) (h : 3 ≤ length bs) (v : at bs 0 ≡ 1) {n : ℕ} (e : n ≡ at bs 1 * 256 + at bs 2) where
+  counted : n ≡ length (take (length bs - 3) (drop 3 bs)) → at bs 1 * 256 + at bs 2 ≡ length bs - 3
+  counted l = sym e ∙ l ∙ ap length (behind_three bs) ∙ length-drop 3 bs
+
+  pub layout_length : (n ≡ length (take (length bs - 3) (drop 3 bs)) → ⊥) → Err Unfit ≡ layout_value bs
+  unfolding layout_value
+  layout_length l = rw (le-ltb (length bs) 3 h, eq-eqb (at bs 0) 1 v, ne_eqb (at bs 1 * 256 + at bs 2) (length bs - 3) (λ q. l (e ∙ q ∙ sym (ap length (behind_three bs) ∙ length-drop 3 bs))))
+
+  pub layout_records : n ≡ length (take (length bs - 3) (drop 3 bs))
+      → {r : Result ℕ LayoutError} → r ≡ count_of (read_records (length (take (length bs - 3) (drop 3 bs))) (take (length bs - 3) (drop 3 bs))) → r ≡ layout_value bs
+  unfolding layout_value
+  layout_records l q =
+      rw (le-ltb (length bs) 3 h, eq-eqb (at bs 0) 1 v, eq-eqb (at bs 1 * 256 + at bs 2) (length bs - 3) (counted l), ← enough (length bs) (drop 3 bs) (rw length-drop (omega arith)))
+      (q ∙ ap (λ (x : List ℕ). count_of (read_records (length x) x)) (behind_three bs))

@@ -1,4 +1,3 @@
 pub mod CountLaws
 pub mod ReadLaws
-pub mod StepLaws
 pub mod Steps

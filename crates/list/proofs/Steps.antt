@@ -1,40 +1,30 @@
 -- The steps of a reader, one after another, give the records of the list's definition.
-use Rattle.std.specs.Prelude.{if◌then◌else◌}
 use mathlib.Core.Path.{◌≡◌, refl, sym, ap, ◌∙◌}
-use mathlib.Core.Bool.{Bool, true, false}
-use mathlib.Core.List.{List, []}
+use mathlib.Core.List.{List, [], ◌∷◌}
 use Prim.Native.Nat.{ℕ, zero, suc}
-use lib.Dec.{leb}
-use lib.ListN.{length, drop, drop_of_length-le}
-use lib.Seq.{drop-cons}
-use borrow.Author.Tests.{leb-true, leb-false}
 use Rattle.list.specs.Layout.{Layout, fits, no_fit, read_records}
-use Rattle.list.specs.ProgramReading.{listed_of, step_at}
-use Rattle.list.specs.declared.Step.{Step}
-use Rattle.list.specs.declared.Step.TheVariants.{Record, Bad, End}
+use Rattle.list.specs.ProgramReading.{Step, one, bad, end, step}
 use Rattle.list.proofs.ReadLaws.{more, after_step, step_reads}
 
--- a step, and what the steps from the next position on give
-abbrev step_then : List ℕ → (ℕ → Layout) → Step → Layout
-step_then s rest End = fits []
-step_then s rest Bad = no_fit
-step_then s rest (Record r next) = more (listed_of s r) (rest next)
+-- a step, and what the steps on the bytes behind it give
+abbrev step_then : (List ℕ → Layout) → Step → Layout
+step_then rest end = fits []
+step_then rest bad = no_fit
+step_then rest (one r bs) = more r (rest bs)
 
--- at most n records from a position on
-abbrev pub steps_from : List ℕ → ℕ → ℕ → Layout
-steps_from s zero a = if leb (length s) a then fits [] else no_fit
-steps_from s (suc n) a = step_then s (steps_from s n) (step_at s a)
+-- at most n records
+abbrev pub steps_of : ℕ → List ℕ → Layout
+steps_of zero [] = fits []
+steps_of zero (l ∷ bs) = no_fit
+steps_of (suc n) bs = step_then (steps_of n) (step bs)
 
-pub steps_are_records : (s : List ℕ) (n a : ℕ) → steps_from s n a ≡ read_records n (drop a s)
+pub steps_are_records : (n : ℕ) (bs : List ℕ) → steps_of n bs ≡ read_records n bs
 unfolding read_records
-steps_are_records s zero a = go (leb (length s) a) refl
+steps_are_records zero [] = refl
+steps_are_records zero (l ∷ bs) = refl
+steps_are_records (suc n) bs = go (step bs) (steps_are_records n) ∙ sym (step_reads n bs)
   where
-    go : (b : Bool) → leb (length s) a ≡ b → (if b then fits [] else no_fit) ≡ read_records zero (drop a s)
-    go true e = rw (drop_of_length-le s (leb-true (length s) a e))
-    go false e = rw (drop-cons s a 0 (leb-false (length s) a e))
-steps_are_records s (suc n) a = go (step_at s a) (steps_are_records s n) ∙ sym (step_reads s n a)
-  where
-    go : (t : Step) → ((x : ℕ) → steps_from s n x ≡ read_records n (drop x s)) → step_then s (steps_from s n) t ≡ after_step s n t
-    go End h = refl
-    go Bad h = refl
-    go (Record r next) h = ap (more (listed_of s r)) (h next)
+    go : (t : Step) → ((x : List ℕ) → steps_of n x ≡ read_records n x) → step_then (steps_of n) t ≡ after_step n t
+    go end h = refl
+    go bad h = refl
+    go (one r x) h = ap (more r) (h x)

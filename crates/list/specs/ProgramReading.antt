@@ -1,112 +1,129 @@
--- The layout read by positions, as the program reads it: what stands at a position of the list's bytes. That the
--- steps give 01's records is proved
--- (proofs/Steps, `steps_are_records`).
-use Rattle.std.specs.Prelude.{◌&&◌, ◌||◌, not, List, ℕ, ◌+◌, ◌-◌, ◌*◌, ◌≤◌, ◌<◌, eqb, leb, ltb, length, take, drop, if◌then◌else◌}
+-- The layout as the program reads it: what stands first in some bytes of records, and the bytes behind it. That these
+-- steps, one after another, give 01's records is proved (proofs/Steps, `steps_are_records`).
+use Rattle.std.specs.Prelude.{◌≡◌, ◌||◌, not, List, [], ◌∷◌, ℕ, ◌+◌, ◌-◌, ◌*◌, eqb, leb, ltb, length, take, drop, get_or, if◌then◌else◌, Option, Some, None, Result, Ok, Err}
+use Rattle.std.specs.Borrow.{Bor}
 use Rattle.laws.specs.Words.{at}
-use Rattle.list.specs.Layout.{Listed, Layout, fits, no_fit, read_records}
-use Rattle.list.specs.declared.Text.{Text}
-use Rattle.list.specs.declared.Listed.{Listed as Placed}
-use Rattle.list.specs.declared.Step.{Step}
-use Rattle.list.specs.declared.Step.TheVariants.{Record, Bad, End}
-use Rattle.list.specs.declared.Shape.{Shape}
-use Rattle.list.specs.declared.Shape.TheVariants.{Fits, Unversioned, Unfit}
-use Rattle.list.specs.declared.Reader.{Reader}
-use Rattle.list.specs.declared.Read.{Read}
+use Rattle.list.specs.Layout.{Listed, Texts, texts, no_texts, read_texts, Layout, fits, no_fit, read_records}
+use Rattle.list.specs.declared.Listed.{Listed as Lent}
+use Rattle.list.specs.declared.LayoutError.{LayoutError}
+use Rattle.list.specs.declared.LayoutError.TheVariants.{Unversioned, Unfit}
 
--- ---- the program's record, read with the list's bytes
-
--- the bytes of a text; past the list's end there are none
-abbrev pub text_of : List ℕ → Text → List ℕ
-text_of s t = take t.len (drop t.start s)
+-- ---- the program's record
 
 -- the record of the list that the program's record stands for
-abbrev pub listed_of : List ℕ → Placed → Listed
-listed_of s r =
+abbrev pub listed_of : Lent → Listed
+listed_of r =
     record {
       primary = r.primary;
       version = r.version;
       baud = r.baud;
-      id = text_of s r.id;
-      manufacturer = text_of s r.manufacturer;
-      medium = text_of s r.medium;
-      fault = text_of s r.fault;
+      id = r.id.now;
+      manufacturer = r.manufacturer.now;
+      medium = r.medium.now;
+      fault = r.fault.now;
     }
 
--- ---- one record at a position
+-- ---- a text
 
--- where a text ends, within a record that ends at e, whose length byte stands at p. 0: it does not fit, as no text
--- ends at 0
-unfoldable pub text_end_value : List ℕ → ℕ → ℕ → ℕ
-text_end_value s e p = if ltb 0 p && ltb p e && ltb (at s p) (e - p) then p + 1 + at s p else 0
+-- the text after its length byte, and the bytes behind it, if it fits
+abbrev pub split_text_value : List ℕ → Option (List ℕ × List ℕ)
+split_text_value [] = None
+split_text_value (l ∷ bs) = if leb l (length bs) then Some (take l bs, drop l bs) else None
 
--- the text between its length byte at p and its end
-abbrev pub between : ℕ → ℕ → Text
-between p e = record { start = p + 1; len = e - (p + 1) }
+-- the same of the program's slices
+abbrev pub split_texts : Option (Bor (List ℕ) × Bor (List ℕ)) → Option (List ℕ × List ℕ)
+split_texts None = None
+split_texts (Some p) = Some (p.0.now, p.1.now)
 
--- four texts stand one after another in the list, the first length byte at a + 7
-pub record Ordered (s : List ℕ) (a id manufacturer medium fault : ℕ) : Type 0 where
-  pub first : a + 7 < id
-  pub second : id < manufacturer
-  pub third : manufacturer < medium
-  pub fourth : medium < fault
-  pub last : fault ≤ length s
-
--- the record at a, with where its texts end
-abbrev pub placed : List ℕ → ℕ → ℕ → ℕ → ℕ → ℕ → Placed
-placed s a id manufacturer medium fault =
-    record {
-      primary = at s (a + 1);
-      version = at s (a + 2);
-      baud = ((at s (a + 3) * 256 + at s (a + 4)) * 256 + at s (a + 5)) * 256 + at s (a + 6);
-      id = between (a + 7) id;
-      manufacturer = between id manufacturer;
-      medium = between manufacturer medium;
-      fault = between medium fault;
-    }
+-- ---- a record
 
 -- four texts, one after another, which fill the record exactly
-unfoldable pub record_to_value : List ℕ → ℕ → ℕ → Step
-record_to_value s a e =
-    let id = text_end_value s e (a + 7) in
-    let manufacturer = text_end_value s e id in
-    let medium = text_end_value s e manufacturer in
-    let fault = text_end_value s e medium in
-    if eqb fault e then Record (placed s a id manufacturer medium fault) e else Bad
+abbrev pub with_texts : List ℕ → Texts → Option Listed
+with_texts bs no_texts = None
+with_texts bs (texts ts) =
+    Some (record {
+      primary = at bs 0;
+      version = at bs 1;
+      baud = ((at bs 2 * 256 + at bs 3) * 256 + at bs 4) * 256 + at bs 5;
+      id = get_or ts 0 [];
+      manufacturer = get_or ts 1 [];
+      medium = get_or ts 2 [];
+      fault = get_or ts 3 [];
+    })
 
--- what stands at a position: past the end nothing; a length that leaves no room for the fixed parts, or that goes
--- past the end, is bad
-unfoldable pub step_at : List ℕ → ℕ → Step
-step_at s a =
-    if leb (length s) a then End else
-    if ltb (at s a) 6 || leb (length s - a) (at s a) then Bad else
-    record_to_value s a (a + 1 + at s a)
+-- a record's bytes after its length byte: at least the six bytes before the texts
+unfoldable pub record_value : List ℕ → Option Listed
+record_value bs = if leb 6 (length bs) then with_texts bs (read_texts 4 (drop 6 bs)) else None
+
+abbrev pub record_given : Option Lent → Option Listed
+record_given None = None
+record_given (Some r) = Some (listed_of r)
+
+-- a record before some bytes
+abbrev pub before : Option Listed → List ℕ → Option (Listed × List ℕ)
+before None rest = None
+before (Some r) rest = Some (r, rest)
+
+abbrev pub record_split : Option (List ℕ × List ℕ) → Option (Listed × List ℕ)
+record_split None = None
+record_split (Some p) = before (record_value p.0) p.1
+
+-- the record that stands first, its first byte the length of its rest, and the bytes behind it, if it fits
+unfoldable pub split_record_value : List ℕ → Option (Listed × List ℕ)
+split_record_value bs = record_split (split_text_value bs)
+
+abbrev pub split_records : Option (Lent × Bor (List ℕ)) → Option (Listed × List ℕ)
+split_records None = None
+split_records (Some p) = Some (listed_of p.0, p.1.now)
 
 -- ---- the reader
 
--- where a reader at a position stands after a step
-abbrev pub at_of_value : ℕ → Step → ℕ
-at_of_value a (Record r next) = next
-at_of_value a Bad = a
-at_of_value a End = a
+-- what stands first: a record and the bytes behind it, bytes that are no record, or nothing
+pub data Step : Type 0 where
+  one : Listed → List ℕ → Step
+  bad : Step
+  end : Step
 
--- the step, and the reader past it
-abbrev pub next_of : Reader → Read
-next_of r =
-    record {
-      reader = record { list = r.list; at = at_of_value r.at (step_at r.list.now r.at) };
-      step = step_at r.list.now r.at;
-    }
+abbrev pub step_of : Option (Listed × List ℕ) → Step
+step_of None = bad
+step_of (Some p) = one p.0 p.1
+
+abbrev pub step : List ℕ → Step
+step [] = end
+step (l ∷ bs) = step_of (split_record_value (l ∷ bs))
+
+-- what the reader answers
+abbrev pub answered : Step → Result (Option Listed) LayoutError
+answered (one r rest) = Ok (Some r)
+answered bad = Err Unfit
+answered end = Ok None
+
+-- the bytes that are left after it: at bytes that are no record the reader stays
+abbrev pub left : List ℕ → Step → List ℕ
+left bs (one r rest) = rest
+left bs bad = bs
+left bs end = bs
+
+abbrev pub given : Result (Option Lent) LayoutError → Result (Option Listed) LayoutError
+given (Err e) = Err e
+given (Ok None) = Ok None
+given (Ok (Some r)) = Ok (Some (listed_of r))
+
+-- a reader over bs answers this, and is one over rest then
+pub record Reads (bs : List ℕ) (answer : Result (Option Lent) LayoutError) (rest : List ℕ) : Type 0 where
+  pub is : given answer ≡ answered (step bs)
+  pub rest_is : rest ≡ left bs (step bs)
 
 -- ---- the whole list
 
 -- how many records, or that a length does not fit
-abbrev pub shape_of_count : Layout → Shape
-shape_of_count no_fit = Unfit
-shape_of_count (fits rs) = Fits (length rs)
+abbrev pub count_of : Layout → Result ℕ LayoutError
+count_of no_fit = Err Unfit
+count_of (fits rs) = Ok (length rs)
 
 -- byte 0 is version 01; two bytes, big-endian, count all that follows; then records
-unfoldable pub shape_of : List ℕ → Shape
-shape_of bs =
-    if ltb (length bs) 3 || not (eqb (at bs 0) 1) then Unversioned else
-    if not (eqb (at bs 1 * 256 + at bs 2) (length bs - 3)) then Unfit else
-    shape_of_count (read_records (length bs) (drop 3 bs))
+unfoldable pub layout_value : List ℕ → Result ℕ LayoutError
+layout_value bs =
+    if ltb (length bs) 3 || not (eqb (at bs 0) 1) then Err Unversioned else
+    if not (eqb (at bs 1 * 256 + at bs 2) (length bs - 3)) then Err Unfit else
+    count_of (read_records (length bs) (drop 3 bs))

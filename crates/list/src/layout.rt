@@ -1,150 +1,75 @@
-// The byte layout: one record at a position, and the whole list.
-ghost use Rattle.std.specs.Prelude.{◌≡◌, ◌+◌, ◌*◌, ◌≤◌, ◌<◌, length, drop};
-ghost use Rattle.list.specs.ProgramReading.{text_end_value, between, Ordered, placed, step_at, record_to_value, shape_of, shape_of_count};
+// The byte layout: a record, and the whole list.
+ghost use Rattle.std.specs.Prelude.{◌≡◌, length};
+ghost use Rattle.list.specs.ProgramReading.{split_text_value, split_texts, record_value, record_given, split_record_value, split_records, count_of, layout_value};
 ghost use Rattle.list.specs.Layout.{read_records};
 
-use super::{Listed, Shape, Step, Text};
+use super::{LayoutError, Listed, Reader};
 
-fn wide(b: u8) -> usize
-    ensures { (result ≡ b) × (result < 256) }
+// A text after its length byte, and the bytes behind it, if it fits.
+fn split_text(bytes: &[u8]) -> Option<(&[u8], &[u8])>
+    ensures { split_texts result ≡ split_text_value bytes.now }
 {
-    b as usize
+    let (len, rest) = bytes.split_first()?;
+    rest.split_at_checked(usize::from(*len))
 }
 
-fn wide32(b: u8) -> u32
-    ensures { (result ≡ b) × (result < 256) }
+// A record without its length byte: primary; version; own baud; four texts, which fill it exactly.
+fn record_in(bytes: &[u8]) -> Option<Listed<'_>>
+    ensures { record_given result ≡ record_value bytes.now }
 {
-    b as u32
+    let [primary, version, b0, b1, b2, b3, texts @ ..] = bytes else {
+        return None;
+    };
+    let (id, texts) = split_text(texts)?;
+    let (manufacturer, texts) = split_text(texts)?;
+    let (medium, texts) = split_text(texts)?;
+    let (fault, texts) = split_text(texts)?;
+    if !texts.is_empty() {
+        return None;
+    }
+    Some(Listed {
+        primary: *primary,
+        version: *version,
+        baud: u32::from_be_bytes([*b0, *b1, *b2, *b3]),
+        id,
+        manufacturer,
+        medium,
+        fault,
+    })
 }
 
-// Four bytes as a number, the high byte first.
-fn big4(a: u8, b: u8, c: u8, d: u8) -> u32
-    ensures { result ≡ ((a * 256 + b) * 256 + c) * 256 + d }
+// One record, its first byte the length of its rest, and the bytes behind it, if it fits.
+pub(crate) fn split_record(bytes: &[u8]) -> Option<(Listed<'_>, &[u8])>
+    ensures { split_records result ≡ split_record_value bytes.now }
 {
-    ((wide32(a) * 256 + wide32(b)) * 256 + wide32(c)) * 256 + wide32(d)
+    let (record, rest) = split_text(bytes)?;
+    Some((record_in(record)?, rest))
 }
 
-// Where the text ends whose length byte stands at `from`, in a record that ends at `end`; 0 if it does not fit.
-fn text_end(list: &[u8], end: usize, from: usize) -> usize
-    requires { end ≤ length list.now }
-    ensures { result ≡ text_end_value list.now end from }
+// The number of records.
+fn count(records: &[u8]) -> Result<usize, LayoutError>
+    ensures { result ≡ count_of (read_records (length records.now) records.now) }
 {
-    if from == 0 {
-        return 0;
-    }
-    if end <= from {
-        return 0;
-    }
-    let len = wide(list[from]);
-    if len < end - from {
-        return from + 1 + len;
-    }
-    0
-}
-
-// The text between its length byte and its end.
-fn text_between(from: usize, end: usize) -> Text
-    requires { from < end }
-    ensures { result ≡ between from end }
-{
-    Text {
-        start: from + 1,
-        len: end - (from + 1),
-    }
-}
-
-// A record's numbers, and its texts by where each ends.
-fn listed(
-    list: &[u8],
-    at: usize,
-    id: usize,
-    manufacturer: usize,
-    medium: usize,
-    fault: usize,
-) -> Listed
-    requires { Ordered list.now at id manufacturer medium fault }
-    ensures { result ≡ placed list.now at id manufacturer medium fault }
-{
-    Listed {
-        primary: list[at + 1],
-        version: list[at + 2],
-        baud: big4(list[at + 3], list[at + 4], list[at + 5], list[at + 6]),
-        id: text_between(at + 7, id),
-        manufacturer: text_between(id, manufacturer),
-        medium: text_between(manufacturer, medium),
-        fault: text_between(medium, fault),
-    }
-}
-
-// A record at `at` that ends at `end`: four texts, which fill it exactly.
-fn record_to(list: &[u8], at: usize, end: usize) -> Step
-    requires { (at + 7 ≤ end) × (end ≤ length list.now) }
-    ensures { result ≡ record_to_value list.now at end }
-{
-    let id = text_end(list, end, at + 7);
-    let manufacturer = text_end(list, end, id);
-    let medium = text_end(list, end, manufacturer);
-    let fault = text_end(list, end, medium);
-    if fault != end {
-        return Step::Bad;
-    }
-    Step::Record(listed(list, at, id, manufacturer, medium, fault), end)
-}
-
-// One record: one byte, the length of its rest; primary; version; own baud; four texts.
-pub(crate) fn record_at(list: &[u8], at: usize) -> Step
-    ensures { result ≡ step_at list.now at }
-{
-    let n = list.len();
-    if n <= at {
-        return Step::End;
-    }
-    let len = wide(list[at]);
-    if len < 6 {
-        return Step::Bad;
-    }
-    if n - at <= len {
-        return Step::Bad;
-    }
-    record_to(list, at, at + 1 + len)
-}
-
-// The number of records from a position on.
-fn count_from(list: &[u8], from: usize) -> Shape
-    requires { from ≤ length list.now }
-    ensures { result ≡ shape_of_count (read_records (length list.now) (drop from list.now)) }
-{
-    let mut at = from;
+    let mut reader = Reader { rest: records };
     let mut count: usize = 0;
-    loop {
-        match record_at(list, at) {
-            Step::Record(_, next) => {
-                at = next;
-                count += 1;
-            }
-            Step::Bad => {
-                return Shape::Unfit;
-            }
-            Step::End => {
-                return Shape::Fits(count);
-            }
-        }
+    while let Some(_) = reader.next()? {
+        count += 1;
     }
+    Ok(count)
 }
 
 // The whole list: byte 0 is version 01; two bytes, big-endian, count all that follows; then records.
-pub fn layout(list: &[u8]) -> Shape
-    ensures { result ≡ shape_of list.now }
+pub fn layout(list: &[u8]) -> Result<usize, LayoutError>
+    ensures { result ≡ layout_value list.now }
 {
-    let n = list.len();
-    if n < 3 {
-        return Shape::Unversioned;
+    let [version, high, low, records @ ..] = list else {
+        return Err(LayoutError::Unversioned);
+    };
+    if *version != 1 {
+        return Err(LayoutError::Unversioned);
     }
-    if list[0] != 1 {
-        return Shape::Unversioned;
+    if usize::from(u16::from_be_bytes([*high, *low])) != records.len() {
+        return Err(LayoutError::Unfit);
     }
-    if wide(list[1]) * 256 + wide(list[2]) != n - 3 {
-        return Shape::Unfit;
-    }
-    count_from(list, 3)
+    count(records)
 }

@@ -3,86 +3,56 @@
 
 pub mod layout; // layout.rt: the bytes of a record and of the whole list
 
-ghost use Rattle.std.specs.Prelude.{◌≡◌};
-ghost use Rattle.list.specs.ProgramReading.{at_of_value, next_of};
+ghost use Rattle.std.specs.Prelude.{◌≡◌, drop};
+ghost use Rattle.list.specs.ProgramReading.{Reads};
 
-use layout::record_at;
+use layout::split_record;
 
-// Where a text stands in the list.
+// A record of the list: its numbers, and its texts.
 #[derive(Clone, Copy)]
-pub struct Text {
-    pub start: usize,
-    pub len: usize,
-}
-
-// A record of the list: its numbers, and where its texts stand.
-#[derive(Clone, Copy)]
-pub struct Listed {
+pub struct Listed<'a> {
     pub primary: u8,
     pub version: u8,
     pub baud: u32,
-    pub id: Text,
-    pub manufacturer: Text,
-    pub medium: Text,
-    pub fault: Text,
+    pub id: &'a [u8],
+    pub manufacturer: &'a [u8],
+    pub medium: &'a [u8],
+    pub fault: &'a [u8],
 }
 
-// What stands at a position: a record and the position past it, bytes that are no record, or nothing.
-#[derive(Clone, Copy)]
-pub enum Step {
-    Record(Listed, usize),
-    Bad,
-    End,
-}
-
-// The whole layout: the number of records; under 3 bytes, or byte 0 is not 1; or a length does not fit.
-#[derive(Clone, Copy)]
-pub enum Shape {
-    Fits(usize),
+// Why bytes are no list: under 3 bytes, or byte 0 is not 1; or a length does not fit.
+#[derive(Clone, Copy, PartialEq, Eq, Debug)]
+pub enum LayoutError {
     Unversioned,
     Unfit,
 }
 
-// A reader over the list's bytes.
+// A reader over the bytes of the records that are left.
 #[derive(Clone, Copy)]
 pub struct Reader<'a> {
-    pub list: &'a [u8],
-    pub at: usize,
+    pub rest: &'a [u8],
 }
 
-// What `next` hands back: the step, and the reader past it.
-#[derive(Clone, Copy)]
-pub struct Read<'a> {
-    pub reader: Reader<'a>,
-    pub step: Step,
-}
-
-// Where a reader at `at` stands after a step.
-fn at_of(at: usize, step: Step) -> usize
-    ensures { result ≡ at_of_value at step }
-{
-    match step {
-        Step::Record(r, next) => next,
-        Step::Bad => at,
-        Step::End => at,
+impl<'a> Reader<'a> {
+    // A reader over a list: its records begin at byte 3.
+    pub fn new(list: &'a [u8]) -> Self
+        ensures { result.rest.now ≡ drop 3 list.now }
+    {
+        match list {
+            [_, _, _, rest @ ..] => Reader { rest },
+            _ => Reader { rest: &[] },
+        }
     }
-}
 
-// A reader over a list: its records begin at byte 3.
-pub fn new<'a>(list: &'a [u8]) -> Reader<'a>
-    ensures { (result.list ≡ list.entry) × (result.at ≡ 3) }
-{
-    Reader { list, at: 3 }
-}
-
-// The next meter of the list.
-pub fn next<'a>(r: Reader<'a>) -> Read<'a>
-    ensures { result ≡ next_of r.entry }
-{
-    let step = record_at(r.list, r.at);
-    let at = at_of(r.at, step);
-    Read {
-        reader: Reader { list: r.list, at },
-        step,
+    // The next meter of the list. At bytes that are no record the reader stays.
+    pub fn next(&mut self) -> Result<Option<Listed<'a>>, LayoutError>
+        ensures { Reads self.old.rest.now result self.new.rest.now }
+    {
+        if self.rest.is_empty() {
+            return Ok(None);
+        }
+        let (record, rest) = split_record(self.rest).ok_or(LayoutError::Unfit)?;
+        self.rest = rest;
+        Ok(Some(record))
     }
 }

@@ -8,15 +8,21 @@ use native.Mathlib.Numerals.{add-one, add-one-le}
 use native.Mathlib.Omega.{arith}
 use lib.Dec.{eqb, leb, lit≤}
 use lib.ListN.{length}
+use Rattle.std.specs.List.{list_all}
 use borrow.Author.Tests.{eq-eqb, ne_eqb, eqb-true, leb-true}
 use Rattle.laws.specs.Words.{at, same_list}
 use Rattle.laws.specs.Sweep.{fold}
 use Rattle.laws.proofs.Lists.{and_l, and_r}
 use Rattle.laws.proofs.Sweep.{Folded, folded_none, folded_more, folded_whole}
-use Rattle.meter.specs.Meter.{rates}
 use Rattle.meter_identity.specs.Identity.{in_base}
-use Rattle.list_check.specs.Tables.{is_rate_value, medium_heat_old}
+use Rattle.list_check.specs.Tables.{medium_heat_old}
 use Rattle.list_check.specs.Check.{all_within_value, text_digits, good_id_value, good_manufacturer_value}
+
+-- ---- every byte between two
+
+pub within_all : (lo hi : ℕ) (t : List ℕ) → list_all (λ c. leb lo c && leb c hi) t ≡ all_within_value lo hi t
+within_all lo hi [] = refl
+within_all lo hi (b ∷ bs) = ap (λ (x : Bool). leb lo b && leb b hi && x) (within_all lo hi bs)
 
 -- ---- id
 
@@ -60,14 +66,6 @@ manufacturer_other t m h k = rw (ne_eqb (length t) 3 k, ne_eqb (length t) 0 h)
 pub manufacturer_three : (t m : List ℕ) {r : Bool} → length t ≡ 3 → r ≡ all_within_value 0x41 0x5A t → r ≡ good_manufacturer_value t m
 unfolding good_manufacturer_value
 manufacturer_three t m {r} h q = rw (eq-eqb (length t) 3 h, ne_eqb (length t) 0 (λ e. omega arith)) (q ∙ or_false (all_within_value 0x41 0x5A t))
-
--- ---- own baud
-
-pub baud_none : (b : ℕ) → b ≡ 0 → true ≡ eqb b 0 || is_rate_value rates b
-baud_none b h = rw (eq-eqb b 0 h)
-
-pub baud_rate : (b : ℕ) {r : Bool} → (b ≡ 0 → ⊥) → r ≡ is_rate_value rates b → r ≡ eqb b 0 || is_rate_value rates b
-baud_rate b h q = rw (ne_eqb b 0 h) q
 
 -- ---- the digits as a number
 

@@ -1,4 +1,3 @@
 pub mod CheckLaws
 pub mod KeyLaws
-pub mod TextLaws
 pub mod VerdictLaws

@@ -1,21 +1,22 @@
 -- What the program's `check` gives: the values of a record that passes, or what it fails with.
-use Rattle.std.specs.Prelude.{◌≡◌, ℕ, eqb, if◌then◌else◌}
+use Rattle.std.specs.Prelude.{◌≡◌, ℕ, eqb, if◌then◌else◌, Option, Some, None, Result, Ok, Err}
+use Rattle.meter.specs.Meter.{rates}
 use Rattle.laws.specs.Refusal.{not_refused, refused_primary, refused_id, refused_manufacturer, refused_medium, refused_own_baud, refused_fault}
 use Rattle.meter_identity.specs.Identity.{manufacturer_code_value, in_base, decimal}
-use Rattle.list_check.specs.Tables.{media, faults, medium_of, fault_of}
+use Rattle.list_check.specs.Tables.{media, faults, medium_of, fault_of, is_rate_value}
 use Rattle.list.specs.Layout.{Listed}
 use Rattle.list_check.specs.Check.{text_digits, check}
-use Rattle.list_check.specs.declared.OwnBaud.{OwnBaud}
-use Rattle.list_check.specs.declared.OwnBaud.TheVariants.{AsBus, Own}
 use Rattle.list_check.specs.declared.Values.{Values}
 use Rattle.list_check.specs.declared.Failing.{Failing}
 use Rattle.list_check.specs.declared.Failing.TheVariants.{BadPrimary, BadId, BadManufacturer, BadMedium, BadBaud, BadFault}
-use Rattle.list_check.specs.declared.Checked.{Checked}
-use Rattle.list_check.specs.declared.Checked.TheVariants.{Passes, Fails}
 
 -- own baud in a record: "0 = the bus's at opening"
-abbrev pub own_of : ℕ → OwnBaud
-own_of baud = if eqb baud 0 then AsBus else Own baud
+abbrev pub own_of : ℕ → Option ℕ
+own_of baud = if eqb baud 0 then None else Some baud
+
+-- "own baud": none of the rates is refused
+unfoldable pub own_baud_checked : ℕ → Result (Option ℕ) Failing
+own_baud_checked baud = if eqb baud 0 then Ok None else if is_rate_value rates baud then Ok (Some baud) else Err BadBaud
 
 -- the values that a record's texts stand for; the id once as BCD nibbles, once as a decimal number
 unfoldable pub values_of : Listed → Values
@@ -42,9 +43,9 @@ fail_number_value BadBaud = refused_own_baud
 fail_number_value BadFault = refused_fault
 
 -- 0: the record passes
-abbrev pub check_number : Checked → ℕ
-check_number (Passes v) = not_refused
-check_number (Fails f) = fail_number_value f
+abbrev pub check_number : Result Values Failing → ℕ
+check_number (Ok v) = not_refused
+check_number (Err f) = fail_number_value f
 
 -- what has a number of 4 to 9
 abbrev pub failing_of : ℕ → Failing
@@ -56,10 +57,10 @@ failing_of n =
     if eqb n refused_own_baud then BadBaud else
     BadFault
 
-unfoldable pub checked_of : Listed → Checked
-checked_of r = if eqb (check r) not_refused then Passes (values_of r) else Fails (failing_of (check r))
+unfoldable pub checked_of : Listed → Result Values Failing
+checked_of r = if eqb (check r) not_refused then Ok (values_of r) else Err (failing_of (check r))
 
 -- the answer has the number of 01, and if that is 0 the record's values
-pub record CheckGives (r : Listed) (a : Checked) : Type 0 where
+pub record CheckGives (r : Listed) (a : Result Values Failing) : Type 0 where
   pub number : check_number a ≡ check r
   pub is : a ≡ checked_of r

@@ -1,25 +1,23 @@
--- The program's tables of keys: fourteen bytes for each, its length, its text and spaces.
-use Rattle.std.specs.Prelude.{◌≡◌, List, [], ◌∷◌, map, ℕ, zero, suc, ◌*◌, ◌≤◌, ◌<◌, length, take, drop, if◌then◌else◌}
-use Rattle.laws.specs.Words.{at, same_list}
-use Rattle.list_check.specs.Tables.{Medium, FaultKey, media, faults}
+-- The program's tables of keys, and what it finds in them.
+use Rattle.std.specs.Prelude.{List, [], ◌∷◌, ℕ, if◌then◌else◌, Option, Some, None}
+use Rattle.laws.specs.Words.{same_list}
+use Rattle.meter.specs.declared.Fault.{Fault}
+use Rattle.list_check.specs.Tables.{Medium, FaultKey}
+use Rattle.list_check.specs.declared.tables.Keyed.{Keyed}
+use Rattle.list_check.specs.declared.tables.Medium.{Medium as Valued}
 
--- the place of a text among keys; their number, if it is none of them
-abbrev pub place : List (List ℕ) → List ℕ → ℕ
-place [] t = 0
-place (k ∷ ks) t = if same_list k t then 0 else suc (place ks t)
+-- the rows that the program's rows stand for
+abbrev pub row_of : Keyed Valued → Medium
+row_of r = record { key = r.key.now; code = r.value.code; model = r.value.model }
 
--- the keys of a table's bytes
-unfoldable pub keys_of : ℕ → List ℕ → List (List ℕ)
-keys_of zero bs = []
-keys_of (suc n) bs = take (at bs 0) (drop 1 bs) ∷ keys_of n (drop 14 bs)
+abbrev pub fault_row_of : Keyed Fault → FaultKey
+fault_row_of r = record { key = r.key.now; fault = r.value }
 
--- a table's bytes: fourteen for each key, of which the length byte counts at most thirteen
-pub record KeyTable (bs : List ℕ) (n : ℕ) : Type 0 where
-  pub size : length bs ≡ n * 14
-  pub lengths : (k : ℕ) → k < n → at bs (k * 14) ≤ 13
+-- the row of a key, if it is there
+abbrev pub medium_row : List Medium → List ℕ → Option Medium
+medium_row [] t = None
+medium_row (r ∷ rs) t = if same_list r.key t then Some r else medium_row rs t
 
-unfoldable pub media_keys : List (List ℕ)
-media_keys = map (λ (r : Medium). r.key) media
-
-unfoldable pub fault_keys : List (List ℕ)
-fault_keys = map (λ (r : FaultKey). r.key) faults
+abbrev pub fault_row : List FaultKey → List ℕ → Option FaultKey
+fault_row [] t = None
+fault_row (r ∷ rs) t = if same_list r.key t then Some r else fault_row rs t

@@ -1,15 +1,18 @@
-// The rules of a record of the meter list, with the texts and tables that they need.
+// The rules of a record of the meter list, with the tables that they need.
 #![tactic(auto)]
 
 pub mod check; // check.rt: a record against the rules
-pub mod refusal; // refusal.rt: what an opening answers
+pub mod refusal; // refusal.rt: why an opening is refused
 pub mod tables; // tables.rt: keys and codes of media and faults, and the rates
-mod texts; // texts.rt: texts as parts of the list
 
+ghost use Rattle.std.specs.Prelude.{◌≡◌};
+ghost use Rattle.list_check.specs.Checked.{fail_number_value};
+
+use laws::refused;
 use meter::{Fault, Model};
 
-// The rule that a record fails, 4 to 9.
-#[derive(Clone, Copy)]
+// The rule that a record fails.
+#[derive(Clone, Copy, PartialEq, Eq, Debug)]
 pub enum Failing {
     BadPrimary,
     BadId,
@@ -19,30 +22,33 @@ pub enum Failing {
     BadFault,
 }
 
-// The own baud of a record: the bus's at opening, or one of its own.
-#[derive(Clone, Copy)]
-pub enum OwnBaud {
-    AsBus,
-    Own(u32),
+impl Failing {
+    // Its number in the table of refusals, 4 to 9.
+    pub fn number(self) -> u32
+        ensures { result ≡ fail_number_value self }
+    {
+        match self {
+            Failing::BadPrimary => refused::PRIMARY,
+            Failing::BadId => refused::ID,
+            Failing::BadManufacturer => refused::MANUFACTURER,
+            Failing::BadMedium => refused::MEDIUM,
+            Failing::BadBaud => refused::OWN_BAUD,
+            Failing::BadFault => refused::FAULT,
+        }
+    }
 }
 
-// The values of a record that passes. `id` has the id's digits as nibbles, `number` is the id as a decimal number.
+// The values of a record that passes. `baud` is its own, if not the bus's at opening; `id` has the id's digits as
+// nibbles, `number` is the id as a decimal number.
 #[derive(Clone, Copy)]
 pub struct Values {
     pub primary: u8,
     pub version: u8,
-    pub baud: OwnBaud,
+    pub baud: Option<u32>,
     pub id: u32,
     pub number: u32,
     pub manufacturer: u16,
     pub medium: u8,
     pub model: Model,
     pub fault: Fault,
-}
-
-// What `check` gives.
-#[derive(Clone, Copy)]
-pub enum Checked {
-    Passes(Values),
-    Fails(Failing),
 }

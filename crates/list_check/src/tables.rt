@@ -1,133 +1,140 @@
 // The keys and codes of MEDIA, FAULTS and BAUD_RATES.
-ghost use Rattle.std.specs.Prelude.{◌≡◌, get_or};
+ghost use Rattle.std.specs.Prelude.{◌≡◌, option_map};
+ghost use Rattle.std.specs.List.{find};
+ghost use Rattle.std.specs.Str.{bytes_eq};
 ghost use Rattle.meter.specs.Meter.{rates};
-ghost use Rattle.list_check.specs.Tables.{media, faults, is_rate_value, medium_water, fault_none};
-ghost use Rattle.list_check.specs.ProgramKeys.{place, keys_of, KeyTable, media_keys, fault_keys};
+ghost use Rattle.list_check.specs.Tables.{media, faults, is_rate_value};
+ghost use Rattle.list_check.specs.ProgramKeys.{row_of, fault_row_of, medium_row, fault_row};
 
-use super::texts::same_text;
 use meter::{BAUD_RATES, Fault, Model};
 
-// A key takes fourteen bytes: its length, its text, and spaces.
-pub const MEDIA: [u8; 112] = *b"\x04heat         \
-    \x07cooling      \
-    \x05water        \
-    \x0Acold_water   \
-    \x0Awarm_water   \
-    \x03gas          \
-    \x0Belectricity  \
-    \x08heat_old     ";
+// A row of a table: a key's text, and what it stands for.
+#[derive(Clone, Copy)]
+pub struct Keyed<T> {
+    pub key: &'static [u8],
+    pub value: T,
+}
 
-// The code in the telegram, in MEDIA's order.
-pub const MEDIA_CODES: [u8; 8] = [0x04, 0x0A, 0x07, 0x16, 0x06, 0x03, 0x02, 0x04];
+// The code in the telegram, and how the meter replies.
+#[derive(Clone, Copy, PartialEq, Eq, Debug)]
+pub struct Medium {
+    pub code: u8,
+    pub model: Model,
+}
 
-// How the meter replies.
-pub const MEDIA_MODELS: [Model; 8] = [
-    Model::Heat,
-    Model::Heat,
-    Model::Water,
-    Model::Water,
-    Model::Water,
-    Model::Water,
-    Model::Electricity,
-    Model::Fixed,
+pub const MEDIA: [Keyed<Medium>; 8] = [
+    Keyed {
+        key: b"heat",
+        value: Medium {
+            code: 0x04,
+            model: Model::Heat,
+        },
+    },
+    Keyed {
+        key: b"cooling",
+        value: Medium {
+            code: 0x0A,
+            model: Model::Heat,
+        },
+    },
+    Keyed {
+        key: b"water",
+        value: Medium {
+            code: 0x07,
+            model: Model::Water,
+        },
+    },
+    Keyed {
+        key: b"cold_water",
+        value: Medium {
+            code: 0x16,
+            model: Model::Water,
+        },
+    },
+    Keyed {
+        key: b"warm_water",
+        value: Medium {
+            code: 0x06,
+            model: Model::Water,
+        },
+    },
+    Keyed {
+        key: b"gas",
+        value: Medium {
+            code: 0x03,
+            model: Model::Water,
+        },
+    },
+    Keyed {
+        key: b"electricity",
+        value: Medium {
+            code: 0x02,
+            model: Model::Electricity,
+        },
+    },
+    Keyed {
+        key: b"heat_old",
+        value: Medium {
+            code: 0x04,
+            model: Model::Fixed,
+        },
+    },
 ];
 
-pub const FAULTS: [u8; 98] = *b"\x04none         \
-    \x08checksum     \
-    \x09truncated    \
-    \x04busy         \
-    \x0Dwrong_address\
-    \x05flaky        \
-    \x08too_many     ";
-
-// In FAULTS' order.
-const FAULT_KINDS: [Fault; 7] = [
-    Fault::None,
-    Fault::Checksum,
-    Fault::Truncated,
-    Fault::Busy,
-    Fault::WrongAddress,
-    Fault::Flaky,
-    Fault::TooMany,
+pub const FAULTS: [Keyed<Fault>; 7] = [
+    Keyed {
+        key: b"none",
+        value: Fault::None,
+    },
+    Keyed {
+        key: b"checksum",
+        value: Fault::Checksum,
+    },
+    Keyed {
+        key: b"truncated",
+        value: Fault::Truncated,
+    },
+    Keyed {
+        key: b"busy",
+        value: Fault::Busy,
+    },
+    Keyed {
+        key: b"wrong_address",
+        value: Fault::WrongAddress,
+    },
+    Keyed {
+        key: b"flaky",
+        value: Fault::Flaky,
+    },
+    Keyed {
+        key: b"too_many",
+        value: Fault::TooMany,
+    },
 ];
 
-fn wide(b: u8) -> usize
-    ensures { result ≡ b }
+fn row_with<'a, T>(rows: &'a [Keyed<T>], key: &[u8]) -> Option<&'a Keyed<T>>
+    ensures { option_map (λ row. row.now) result ≡ find (λ row. bytes_eq row.key.now key.now) rows.now }
 {
-    b as usize
+    rows.iter().find(|row| row.key == key)
 }
 
-// The place of a text among the keys of a table; their number, if it is none of them.
-fn find_key(keys: &[u8], count: usize, t: &[u8]) -> usize
-    requires { KeyTable keys.now count }
-    ensures { result ≡ place (keys_of count keys.now) t.now }
+// The medium of a key.
+pub(crate) fn find_medium(key: &[u8]) -> Option<&'static Keyed<Medium>>
+    ensures { option_map (λ row. row_of row.now) result ≡ medium_row media key.now }
 {
-    let mut k: usize = 0;
-    while k < count {
-        let from = k * 14 + 1;
-        let end = from + wide(keys[k * 14]);
-        if same_text(&keys[from..end], t) {
-            return k;
-        }
-        k += 1;
-    }
-    count
+    row_with(&MEDIA, key)
 }
 
-// The place of a medium's key in MEDIA, 8 for none.
-pub(crate) fn find_medium(t: &[u8]) -> usize
-    ensures { result ≡ place media_keys t.now }
+// The fault of a key.
+pub(crate) fn find_fault(key: &[u8]) -> Option<&'static Keyed<Fault>>
+    ensures { option_map (λ row. fault_row_of row.now) result ≡ fault_row faults key.now }
 {
-    find_key(&MEDIA, 8, t)
-}
-
-// The place of a fault's key in FAULTS, 7 for none.
-pub(crate) fn find_fault(t: &[u8]) -> usize
-    ensures { result ≡ place fault_keys t.now }
-{
-    find_key(&FAULTS, 7, t)
-}
-
-// For a place that is none, the code of water.
-pub(crate) fn medium_code(k: usize) -> u8
-    ensures { result ≡ (get_or media k medium_water).code }
-{
-    if k < 8 {
-        return MEDIA_CODES[k];
-    }
-    0x07
-}
-
-// For a place that is none, as water replies.
-pub(crate) fn medium_model(k: usize) -> Model
-    ensures { result ≡ (get_or media k medium_water).model }
-{
-    if k < 8 {
-        return MEDIA_MODELS[k];
-    }
-    Model::Water
-}
-
-// For a place that is none, no fault.
-pub(crate) fn fault_kind(k: usize) -> Fault
-    ensures { result ≡ (get_or faults k fault_none).fault }
-{
-    if k < 7 {
-        return FAULT_KINDS[k];
-    }
-    Fault::None
+    row_with(&FAULTS, key)
 }
 
 // One of the eight rates.
 pub fn is_rate(baud: u32) -> bool
     ensures { result ≡ is_rate_value rates baud }
 {
-    let mut k: usize = 0;
-    while k < 8 {
-        if BAUD_RATES[k] == baud {
-            return true;
-        }
-        k += 1;
-    }
-    false
+    BAUD_RATES.contains(&baud)
 }

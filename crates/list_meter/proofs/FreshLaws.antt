@@ -1,5 +1,5 @@
 -- The program's fresh meter is the plain one: the id's nibbles are its digits.
-use Rattle.std.specs.Prelude.{if◌then◌else◌}
+use Rattle.std.specs.Prelude.{if◌then◌else◌, Some, None}
 use mathlib.Core.Path.{◌≡◌, refl}
 use mathlib.Core.Bool.{Bool, true, false}
 use lib.Dec.{eqb}
@@ -12,7 +12,6 @@ use Rattle.meter_identity.specs.Identity.{in_base, digits_of_value}
 use Rattle.meter.specs.View.{plain_meter}
 use Rattle.list.specs.Layout.{Listed}
 use Rattle.list_check.specs.Check.{check}
-use Rattle.list_check.specs.declared.OwnBaud.TheVariants.{AsBus, Own}
 use Rattle.list_meter.specs.Fresh.{other_than_bus_value, own_baud_value, seed_of_value, fresh}
 use Rattle.list_check.specs.Checked.{own_of, values_of}
 use Rattle.list_meter.specs.ProgramFresh.{baud_from, fresh_of}
@@ -23,7 +22,7 @@ pub baud_from_lem : (bus : ℕ) (practice : Bool) (own : ℕ) → baud_from bus 
 unfolding own_baud_value
 baud_from_lem bus practice own = go (eqb own 0)
   where
-    go : (zero : Bool) → baud_from bus practice (if zero then AsBus else Own own) ≡ (if zero then bus else other_than_bus_value bus practice own)
+    go : (zero : Bool) → baud_from bus practice (if zero then None else Some own) ≡ (if zero then bus else other_than_bus_value bus practice own)
     go true = refl
     go false = refl
 

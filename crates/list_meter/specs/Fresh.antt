@@ -1,8 +1,7 @@
 -- The meter of a record, as an opening begins with it.
-use Rattle.std.specs.Prelude.{Bool, false, ◌&&◌, List, ℕ, ◌*◌, ◌%◌, eqb, if◌then◌else◌}
+use Rattle.std.specs.Prelude.{Bool, false, None, ◌&&◌, List, ℕ, ◌*◌, ◌%◌, eqb, if◌then◌else◌}
 use Rattle.meter_identity.specs.Identity.{manufacturer_code_value, decimal}
 use Rattle.meter.specs.PlainMeter.{PlainMeter}
-use Rattle.meter.specs.declared.LastFcb.TheVariants.{Never}
 use Rattle.list_check.specs.Tables.{media, faults, medium_of, fault_of}
 use Rattle.list.specs.Layout.{Listed}
 use Rattle.list_check.specs.Check.{text_digits}
@@ -38,7 +37,7 @@ fresh bus practice r =
       baud = own_baud_value bus practice r.baud;
       selected = false;
       part = 0;
-      last = Never;
+      last = None;
       readouts = 0;
       seed = seed_of_value practice (text_digits r.id);
       hears_next = false;

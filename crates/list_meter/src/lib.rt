@@ -5,28 +5,22 @@ ghost use Rattle.std.specs.Prelude.{◌≡◌};
 ghost use Rattle.list_meter.specs.Fresh.{other_than_bus_value, seed_from};
 ghost use Rattle.list_meter.specs.ProgramFresh.{baud_from, fresh_of};
 
-use list_check::{OwnBaud, Values};
-use meter::{Built, LastFcb, Meter, State};
+use list_check::Values;
+use meter::{Built, Meter, State};
 
 // An own baud equal to the bus baud becomes 2400 with the practice flag.
 fn other_than_bus(own: u32, bus: u32, practice: bool) -> u32
     ensures { result ≡ other_than_bus_value bus practice own }
 {
-    if own == bus {
-        if practice {
-            return 2400;
-        }
-        return own;
-    }
-    own
+    if practice && own == bus { 2400 } else { own }
 }
 
-fn baud_of(own: OwnBaud, bus: u32, practice: bool) -> u32
+fn baud_of(own: Option<u32>, bus: u32, practice: bool) -> u32
     ensures { result ≡ baud_from bus practice own }
 {
     match own {
-        OwnBaud::AsBus => bus,
-        OwnBaud::Own(baud) => other_than_bus(baud, bus, practice),
+        None => bus,
+        Some(baud) => other_than_bus(baud, bus, practice),
     }
 }
 
@@ -34,26 +28,21 @@ fn baud_of(own: OwnBaud, bus: u32, practice: bool) -> u32
 fn seed_of(number: u32, practice: bool) -> u32
     ensures { result ≡ seed_from practice number }
 {
-    if practice {
-        return 0;
-    }
-    number % 997 * 53
+    if practice { 0 } else { number % 997 * 53 }
 }
 
-// A fresh meter. A flaky one misses its first telegram.
+// A fresh meter. A flaky one misses its first telegram. The bus baud and the flag stay two parameters, as the C interface
+// and the definition have them.
 pub fn fresh(v: Values, bus: u32, practice: bool) -> Meter
     ensures { result ≡ fresh_of bus practice v }
 {
-    let model = v.model;
-    let fault = v.fault;
-    let own = v.baud;
     let built = Built {
         id: v.id,
         manufacturer: v.manufacturer,
         version: v.version,
         medium: v.medium,
-        model,
-        fault,
+        model: v.model,
+        fault: v.fault,
         seed: seed_of(v.number, practice),
     };
     let state = State {
@@ -61,13 +50,10 @@ pub fn fresh(v: Values, bus: u32, practice: bool) -> Meter
         access: 0,
         selected: false,
         part: 0,
-        last: LastFcb::Never,
+        last: None,
         readouts: 0,
         hearing: false,
-        baud: baud_of(own, bus, practice),
+        baud: baud_of(v.baud, bus, practice),
     };
-    Meter {
-        built: built,
-        state: state,
-    }
+    Meter { built, state }
 }

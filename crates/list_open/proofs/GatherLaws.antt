@@ -1,106 +1,111 @@
--- The reader's steps gathered, by the tests of the program.
-use Rattle.std.specs.Prelude.{if◌then◌else◌}
+-- The loop of `gather`: the meters so far, and the records that are left; a turn, and its ends.
+use Rattle.std.specs.Prelude.{Result, Ok, Err}
 use mathlib.Core.Path.{◌≡◌, refl, sym, ap, ◌∙◌}
-use mathlib.Core.Bool.{Bool, true, false}
-use mathlib.Core.List.{List}
+use mathlib.Core.Bool.{Bool}
+use mathlib.Core.List.{List, [], ◌∷◌}
 use Prim.Native.Nat.{ℕ, ◌+◌, ◌≤◌, ◌<◌}
-use native.Mathlib.Numerals.{add-one}
-use lib.ListN.{set, replicate}
-use borrow.Author.Tests.{lt-ltb, le-ltb}
-use Rattle.list_open.specs.Opening.{most_meters}
+use native.Mathlib.Omega.{arith}
+use lib.ListN.{length, drop, set, replicate, length-drop, length-set, length-replicate}
+use borrow.Author.Tests.{lt-ltb}
+use Rattle.laws.specs.Sweep.{fold}
 use Rattle.meter.specs.declared.Meter.{Meter}
-use Rattle.list.specs.ProgramReading.{listed_of, step_at, at_of_value}
-use Rattle.list_check.specs.Checked.{checked_of}
 use Rattle.meter.specs.View.{blank_meter_value}
-use Rattle.list_open.specs.ProgramGather.{no_meters_value, with_meter, with_record, admitted, stands_at, gathered, gathered_of}
-use Rattle.list_check.specs.Refusals.{is_accepted_value}
-use Rattle.list_meter.specs.ProgramFresh.{fresh_of}
-use Rattle.list.specs.declared.Listed.{Listed as Placed}
+use Rattle.list.specs.Layout.{Listed, Layout, fits, no_fit, read_records}
+use Rattle.list.specs.ProgramReading.{one, bad, end, step}
+use Rattle.list.proofs.ReadLaws.{more, after_step, step_reads, step_shorter, reads_enough}
+use Rattle.list_check.specs.Checked.{checked_of}
 use Rattle.list_check.specs.declared.Values.{Values}
-use Rattle.list_check.specs.declared.Failing.{Failing}
-use Rattle.list_check.specs.declared.Checked.{Checked}
-use Rattle.list_check.specs.declared.Checked.TheVariants.{Passes, Fails}
-use Rattle.list.specs.declared.Step.{Step}
-use Rattle.list.specs.declared.Step.TheVariants.{Record, Bad, End}
 use Rattle.list_check.specs.declared.refusal.Refusal.{Refusal}
-use Rattle.list_check.specs.declared.refusal.Refusal.TheVariants.{Accepted, AtRecord}
+use Rattle.list_meter.specs.ProgramFresh.{fresh_of}
+use Rattle.list_open.specs.Opening.{most_meters}
+use Rattle.list_open.specs.ProgramGather.{no_meters_value, with_meter, with_record, at_index, take_in, gathered_of, Few}
 use Rattle.list_open.specs.declared.Meters.{Meters}
+use Rattle.list_open.proofs.LaidLaws.{laid_out}
 
-pub none_is : (r : Refusal) {ms : List Meter} → ms ≡ replicate most_meters blank_meter_value → ◌≡◌ {A = Meters} (record { refusal = r; meters = ms; count = 0 }) (no_meters_value r)
+pub none_is : {m : Meter} → m ≡ blank_meter_value → ◌≡◌ {A = Meters} (record { meters = replicate most_meters m; count = 0 }) no_meters_value
 unfolding no_meters_value
-none_is r e = ap (λ (ms : List Meter). record { refusal = r; meters = ms; count = 0 }) e
+none_is e = ap (λ (m : Meter). record { meters = replicate most_meters m; count = 0 }) e
 
--- ---- one step of the reader
+-- a meter in the place of the count
+abbrev pub stored : Meters → Meter → Meters
+stored a m = record { meters = set a.meters a.count m; count = a.count + 1 }
 
-module _ (bus : ℕ) (practice : Bool) (a : Meters) where
-  join_pass : (v : Values) → is_accepted_value a.refusal ≡ true → with_meter a (fresh_of bus practice v) ≡ with_record bus practice a (Passes v)
+module _ (bus : ℕ) (practice : Bool) where
+  -- a refused opening takes in no more
+  pub kept : (e : Refusal) (rs : List Listed) → fold (take_in bus practice) (Err e) rs ≡ Err e
+  kept e [] = refl
+  kept e (r ∷ rs) = kept e rs
+
+  pub takes_meter : (a : Meters) (r : Listed) {v : Values} → a.count < most_meters → Ok v ≡ at_index a.count (checked_of r) → take_in bus practice (Ok a) r ≡ Ok (stored a (fresh_of bus practice v))
+  unfolding with_record with_meter
+  takes_meter a r {v} h e = ap (with_record bus practice a) (sym e) ∙ rw (lt-ltb a.count most_meters h)
+
+  pub takes_failing : (a : Meters) (r : Listed) {e : Refusal} → Err e ≡ at_index a.count (checked_of r) → take_in bus practice (Ok a) r ≡ Err e
   unfolding with_record
-  join_pass v h = sym (ap (λ (b : Bool). if b then with_meter a (fresh_of bus practice v) else a) h)
+  takes_failing a r e = ap (with_record bus practice a) (sym e)
 
-  join_fail : (f : Failing) → is_accepted_value a.refusal ≡ true → no_meters_value (AtRecord f a.count) ≡ with_record bus practice a (Fails f)
-  unfolding with_record
-  join_fail f h = sym (ap (λ (b : Bool). if b then no_meters_value (AtRecord f a.count) else a) h)
+-- one record more stands first
+split_more : {left : List Listed} {r : Listed} (l : Layout) → fits left ≡ more r l → (rs : List Listed) × (l ≡ fits rs) × (left ≡ r ∷ rs)
+split_more no_fit e = cc
+split_more (fits rs) e = (rs, refl, cc)
 
-  pub join_kept : (c : Checked) → is_accepted_value a.refusal ≡ false → a ≡ with_record bus practice a c
-  unfolding with_record
-  join_kept (Passes v) h = sym (ap (λ (b : Bool). if b then with_meter a (fresh_of bus practice v) else a) h)
-  join_kept (Fails f) h = sym (ap (λ (b : Bool). if b then no_meters_value (AtRecord f a.count) else a) h)
+-- a is gathered, and the bytes bs are left
+pub record Gathered (s : List ℕ) (bus : ℕ) (practice : Bool) (bs : List ℕ) (a : Meters) : Type 0 where
+  pub records : List Listed
+  pub short : length bs ≤ length s
+  pub read : read_records (length s) bs ≡ fits records
+  pub room : a.count + length records ≤ most_meters
+  pub places : length a.meters ≡ most_meters
+  pub is : gathered_of bus practice (read_records (length s) (drop 3 s)) ≡ fold (take_in bus practice) (Ok a) records
 
-  module _ (s : List ℕ) {t : Step} where
-    pub admit_bad : t ≡ Bad → a ≡ admitted s bus practice a t
-    unfolding admitted
-    admit_bad e = ap (admitted s bus practice a) (sym e)
+pub gathered_none : {s bs : List ℕ} (bus : ℕ) (practice : Bool) {a : Meters} → Few s → bs ≡ drop 3 s → a ≡ no_meters_value → Gathered s bus practice bs a
+unfolding gathered_of no_meters_value
+gathered_none {s} {bs} bus practice {a} f e n =
+    let l = laid_out s f.fits in
+    record {
+      records = l.0;
+      short = rw (e, length-drop) (omega arith);
+      read = rw e l.1;
+      room = rw n (omega (arith, l.2, f.few));
+      places = rw n (length-replicate most_meters blank_meter_value);
+      is = rw (n, l.1);
+    }
 
-    pub admit_end : t ≡ End → a ≡ admitted s bus practice a t
-    unfolding admitted
-    admit_end e = ap (admitted s bus practice a) (sym e)
+module _ {s : List ℕ} {bus : ℕ} {practice : Bool} {bs : List ℕ} {a : Meters} (g : Gathered s bus practice bs a) where
+  next : read_records (length s) bs ≡ after_step (length s) (step bs)
+  next = sym (reads_enough (length s) bs g.short) ∙ step_reads (length s) bs
 
-    module _ {p : Placed} {n : ℕ} (e : t ≡ Record p n) where
-      admit_record : {c : Checked} {r : Meters} → c ≡ checked_of (listed_of s p) → r ≡ with_record bus practice a c → r ≡ admitted s bus practice a t
-      unfolding admitted
-      admit_record q h = h ∙ ap (with_record bus practice a) q ∙ ap (admitted s bus practice a) (sym e)
+  pub gathered_bad : bad ≡ step bs → ⊥
+  gathered_bad q = let e : fits g.records ≡ no_fit = sym g.read ∙ next ∙ ap (after_step (length s)) (sym q) in cc
 
-      -- refused before
-      pub admit_kept : is_accepted_value a.refusal ≡ false → a ≡ admitted s bus practice a t
-      admit_kept h = admit_record refl (join_kept (checked_of (listed_of s p)) h)
+  pub gathered_end : end ≡ step bs → Ok a ≡ gathered_of bus practice (read_records (length s) (drop 3 s))
+  gathered_end q =
+      let e : fits g.records ≡ fits [] = sym g.read ∙ next ∙ ap (after_step (length s)) (sym q) in
+      let f : g.records ≡ [] = cc in
+      sym (g.is ∙ ap (fold (take_in bus practice) (Ok a)) f)
 
-      module _ (h : is_accepted_value a.refusal ≡ true) {c : Checked} (q : c ≡ checked_of (listed_of s p)) where
-        pub admit_fail : {f : Failing} {r : Meters} → c ≡ Fails f → r ≡ no_meters_value (AtRecord f a.count) → r ≡ admitted s bus practice a t
-        admit_fail {f} k w = admit_record q (w ∙ join_fail f h ∙ ap (with_record bus practice a) (sym k))
+  module _ {r : Listed} {rest : List ℕ} (q : one r rest ≡ step bs) where
+    split : (rs : List Listed) × (read_records (length s) rest ≡ fits rs) × (g.records ≡ r ∷ rs)
+    split = split_more (read_records (length s) rest) (sym g.read ∙ next ∙ ap (after_step (length s)) (sym q))
 
-        module _ {v : Values} (k : c ≡ Passes v) where
-          admit_pass : {r : Meters} → r ≡ with_meter a (fresh_of bus practice v) → r ≡ admitted s bus practice a t
-          admit_pass w = admit_record q (w ∙ join_pass v h ∙ ap (with_record bus practice a) (sym k))
+    pub gathered_room : a.count < most_meters
+    gathered_room = let l = ap length split.2 in omega (arith, g.room, l)
 
-          pub admit_put : {m : Meter} → a.count < most_meters → m ≡ fresh_of bus practice v
-              → ◌≡◌ {A = Meters} (record { refusal = a.refusal; meters = set a.meters a.count m; count = a.count + 1 }) (admitted s bus practice a t)
-          unfolding with_meter
-          admit_put {m} l w =
-              admit_pass (ap (λ (x : Meter). record { refusal = a.refusal; meters = set a.meters a.count x; count = a.count + 1 }) w ∙ rw (lt-ltb a.count most_meters l))
+    pub gathered_fails : {e : Refusal} → Err e ≡ at_index a.count (checked_of r) → Err e ≡ gathered_of bus practice (read_records (length s) (drop 3 s))
+    gathered_fails {e} h =
+        sym (g.is ∙ ap (fold (take_in bus practice) (Ok a)) split.2 ∙ ap (λ (x : Result Meters Refusal). fold (take_in bus practice) x split.0) (takes_failing bus practice a r h)
+        ∙ kept bus practice e split.0)
 
-          -- there is no room
-          pub admit_full : most_meters ≤ a.count → a ≡ admitted s bus practice a t
-          unfolding with_meter
-          admit_full l = admit_pass (rw (le-ltb a.count most_meters l))
-
--- ---- one step more
-
-pub stands_first : (s : List ℕ) → 3 ≡ stands_at s 0
-unfolding stands_at
-stands_first s = refl
-
-pub stands_next : (s : List ℕ) (i : ℕ) → at_of_value (stands_at s i) (step_at s (stands_at s i)) ≡ stands_at s (i + 1)
-unfolding stands_at
-stands_next s i = ap (stands_at s) (sym (add-one i))
-
-pub gathered-first : (s : List ℕ) (bus : ℕ) (practice : Bool) → no_meters_value Accepted ≡ gathered s bus practice 0
-unfolding gathered
-gathered-first s bus practice = refl
-
-pub gathered_next : (s : List ℕ) (bus : ℕ) (practice : Bool) (i : ℕ) → admitted s bus practice (gathered s bus practice i) (step_at s (stands_at s i)) ≡ gathered s bus practice (i + 1)
-unfolding gathered
-gathered_next s bus practice i = ap (gathered s bus practice) (sym (add-one i))
-
-pub gathered-is : (s : List ℕ) (bus : ℕ) (practice : Bool) → gathered s bus practice most_meters ≡ gathered_of s bus practice
-unfolding gathered_of
-gathered-is s bus practice = refl
+    pub gathered_more : {v : Values} {m : Meter} → Ok v ≡ at_index a.count (checked_of r) → m ≡ fresh_of bus practice v → Gathered s bus practice rest (stored a m)
+    gathered_more {v} {m} e w =
+        let l = ap length split.2 in
+        record {
+          records = split.0;
+          short = omega (arith, g.short, step_shorter bs q);
+          read = split.1;
+          room = omega (arith, g.room, l);
+          places = length-set a.meters a.count m ∙ g.places;
+          is =
+              g.is ∙ ap (fold (take_in bus practice) (Ok a)) split.2
+              ∙ ap (λ (x : Result Meters Refusal). fold (take_in bus practice) x split.0) (takes_meter bus practice a r gathered_room e ∙ ap (λ (x : Meter). Ok (stored a x)) (sym w));
+        }

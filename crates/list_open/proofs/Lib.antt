@@ -1,12 +1,10 @@
-pub mod BringLaws
 pub mod FirstLaws
-pub mod FoldLaws
 pub mod GatherLaws
 pub mod GivenLaws
+pub mod LaidLaws
 pub mod Opened
 pub mod OpeningLaws
 pub mod Refusals
 pub mod TakeInLaws
 pub mod Theorems
-pub mod TurnLaws
 pub mod WriteLaws

@@ -1,5 +1,5 @@
-pub mod KeyLaws
 pub mod LetterLaws
 pub mod LengthLaws
 pub mod PutLaws
 pub mod RestLaws
+pub mod KeyLaws

@@ -1,10 +1,7 @@
 -- The record of a meter as the program writes it: part after part, each behind those before it.
-use Rattle.std.specs.Prelude.{◌≡◌, List, [], ◌∷◌, ◌++◌, ℕ, suc, ◌+◌, ◌/◌, ◌%◌, ◌≤◌, ◌<◌, length, take, drop, if◌then◌else◌}
-use Rattle.meter.specs.declared.Model.{Model}
+use Rattle.std.specs.Prelude.{◌≡◌, List, ◌∷◌, ◌++◌, ℕ, ◌+◌, ◌/◌, ◌%◌, ◌≤◌, ◌<◌, length, take, drop}
 use Rattle.list.specs.Layout.{Listed}
 use Rattle.list.specs.Written.{write_rest}
-use Rattle.list_check.specs.Tables.{Medium}
-use Rattle.list_write.specs.Record.{is_of_medium}
 use Rattle.list_write.specs.declared.Rest.{Rest}
 
 -- a text after its length
@@ -16,11 +13,6 @@ pub record Puts (ws : List ℕ) (at : ℕ) (old : List ℕ) (r : ℕ) (new : Lis
   pub next : r ≡ at + length ws
   pub front : take r new ≡ take at old ++ ws
   pub past : drop r new ≡ drop r old
-
--- the place of the first medium with this code and model; their number, if there is none
-abbrev pub medium_place_value : List Medium → ℕ → Model → ℕ
-medium_place_value [] code model = 0
-medium_place_value (r ∷ rs) code model = if is_of_medium code model r then 0 else suc (medium_place_value rs code model)
 
 -- a record's parts of fixed length: primary, version, own baud, and the id after its length
 unfoldable pub front_of_value : Listed → List ℕ

@@ -1,5 +1,5 @@
 // The parts of a record that have a fixed length.
-ghost use Rattle.std.specs.Prelude.{◌≡◌, ◌+◌, ◌%◌, ◌<◌};
+ghost use Rattle.std.specs.Prelude.{◌≡◌, ◌+◌, ◌<◌};
 ghost use Rattle.meter.specs.View.{plain_meter};
 ghost use Rattle.list_write.specs.Record.{listed_baud, record_for};
 ghost use Rattle.list_write.specs.ProgramRecord.{front_of_value};
@@ -21,28 +21,19 @@ fn digit(d: u32) -> u8
     b'0' + (d as u8)
 }
 
-// A number's lowest byte.
-fn low(n: u32) -> u8
-    ensures { result ≡ n % 256 }
-{
-    (n % 256) as u8
-}
-
 // Primary, version, own baud, and the id after its length.
 pub(crate) fn front_of(bus: u32, m: Meter) -> [u8; 15]
     ensures { result ≡ front_of_value (record_for bus (plain_meter m)) }
 {
-    let built = m.built;
-    let state = m.state;
-    let id = built.id;
-    let baud = own_baud(bus, state.baud);
+    let id = m.built.id;
+    let [b0, b1, b2, b3] = own_baud(bus, m.state.baud).to_be_bytes();
     [
-        state.primary,
-        built.version,
-        low(baud / 0x1000000),
-        low(baud / 0x10000),
-        low(baud / 0x100),
-        low(baud),
+        m.state.primary,
+        m.built.version,
+        b0,
+        b1,
+        b2,
+        b3,
         8,
         digit(id / 0x10000000 % 16),
         digit(id / 0x1000000 % 16),

@@ -1,11 +1,14 @@
 // The letters of a manufacturer.
 ghost use Rattle.std.specs.Prelude.{◌≡◌, ◌+◌, ◌≤◌, ◌<◌, length};
 ghost use Rattle.list_write.specs.Record.{capitals, manufacturer_text};
-ghost use Rattle.list_write.specs.ProgramRecord.{counted, Puts};
 
-use crate::keys::{HEAT_OLD, is_medium};
-use crate::texts::put_text;
+use list_check::tables::Medium;
 use meter::Model;
+
+const HEAT_OLD: Medium = Medium {
+    code: 0x04,
+    model: Model::Fixed,
+};
 
 // A letter by its five bits, A is 1.
 fn letter(n: u16) -> u8
@@ -16,7 +19,7 @@ fn letter(n: u16) -> u8
 }
 
 // The three letters of a code.
-fn capitals_of(code: u16) -> [u8; 3]
+pub(crate) fn capitals_of(code: u16) -> [u8; 3]
     ensures { result ≡ capitals code }
 {
     [
@@ -27,31 +30,12 @@ fn capitals_of(code: u16) -> [u8; 3]
 }
 
 // How many letters there are: none for a heat_old with the code 0.
-fn letters(code: u16, medium: u8, model: Model) -> usize
-    ensures { (result ≡ length (manufacturer_text code medium model)) × (result ≤ 3) }
+pub(crate) fn letters(code: u16, medium: Medium) -> usize
+    ensures { (result ≡ length (manufacturer_text code medium.code medium.model)) × (result ≤ 3) }
 {
-    if code != 0 {
-        return 3;
-    }
-    if is_medium(HEAT_OLD, medium, model) {
+    if code == 0 && HEAT_OLD == medium {
         0
     } else {
         3
     }
-}
-
-// The manufacturer of a record.
-pub(crate) fn put_manufacturer(
-    to: &mut [u8],
-    at: usize,
-    code: u16,
-    medium: u8,
-    model: Model,
-) -> usize
-    requires { at + 4 ≤ length to.old }
-    ensures { Puts (counted (manufacturer_text code medium model)) at to.old result to.new }
-{
-    let t = capitals_of(code);
-    let n = letters(code, medium, model);
-    put_text(to, at, &t[..n])
 }

@@ -5,8 +5,12 @@ ghost use Rattle.meter.specs.View.{plain_meter};
 ghost use Rattle.list_write.specs.Record.{record_for};
 ghost use Rattle.list_write.specs.ProgramRecord.{IsRest, record_bytes, Appends};
 
-use laws::least;
+use front::front_of;
+use keys::{fault_key, medium_key};
+use letters::{capitals_of, letters};
+use list_check::tables::Medium;
 use meter::Meter;
+use texts::{put, put_text};
 
 mod front; // front.rt: the parts of a record that have a fixed length
 mod keys; // keys.rt: the keys of media and faults
@@ -23,24 +27,22 @@ pub struct Rest {
     pub len: usize,
 }
 
-fn no_bytes() -> [u8; REST] {
-    [0u8; REST]
-}
-
 // The record of a meter, for a list that is to be opened at this bus baud.
 pub fn rest_of(bus: u32, m: Meter) -> Rest
     ensures { IsRest (record_for bus (plain_meter m)) result }
 {
-    let built = m.built;
-    let model = built.model;
-    let fault = built.fault;
-    let front = front::front_of(bus, m);
-    let mut rest = no_bytes();
-    let a = texts::put(&mut rest, 0, &front);
-    let b = letters::put_manufacturer(&mut rest, a, built.manufacturer, built.medium, model);
-    let c = keys::put_medium(&mut rest, b, built.medium, model);
-    let len = keys::put_fault(&mut rest, c, fault);
-    Rest { bytes: rest, len }
+    let medium = Medium {
+        code: m.built.medium,
+        model: m.built.model,
+    };
+    let capitals = capitals_of(m.built.manufacturer);
+    let n = letters(m.built.manufacturer, medium);
+    let mut bytes = [0u8; REST];
+    let a = put(&mut bytes, 0, &front_of(bus, m));
+    let b = put_text(&mut bytes, a, &capitals[..n]);
+    let c = put_text(&mut bytes, b, medium_key(medium));
+    let len = put_text(&mut bytes, c, fault_key(m.built.fault));
+    Rest { bytes, len }
 }
 
 // A record from a place on, its length byte first; the place behind it. Where there is no room for it nothing is
@@ -48,13 +50,9 @@ pub fn rest_of(bus: u32, m: Meter) -> Rest
 pub fn append(to: &mut [u8], at: usize, rest: Rest) -> usize
     ensures { Appends (record_bytes rest) at to.old result to.new }
 {
-    let n = least(rest.len, REST);
-    if to.len() <= n {
+    let n = rest.len.min(REST);
+    if to.len() <= n || to.len() - (n + 1) < at {
         return at;
     }
-    if to.len() - (n + 1) < at {
-        return at;
-    }
-    let bytes = rest.bytes;
-    texts::put_text(to, at, &bytes[..n])
+    put_text(to, at, &rest.bytes[..n])
 }

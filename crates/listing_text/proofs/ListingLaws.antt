@@ -1,13 +1,14 @@
 -- What is written for a list, by what the opening and the search give.
-use mathlib.Core.Path.{◌≡◌, refl, sym, ap, ap₂, subst, ◌∙◌}
+use Rattle.std.specs.Prelude.{Result, Ok, Err}
+use mathlib.Core.Path.{◌≡◌, sym, ap, ap₂, subst, ◌∙◌}
 use mathlib.Core.Bool.{false}
-use mathlib.Core.List.{List, ◌++◌}
-use Prim.Native.Nat.{ℕ, ◌≤◌}
+use mathlib.Core.List.{List, [], ◌++◌}
+use Prim.Native.Nat.{ℕ}
 use native.Mathlib.Omega.{arith}
 use Rattle.time_seconds.specs.Seconds.{zero_seconds}
 use lib.ListN.{length, take, drop, length-replicate}
 use lib.Seq.{take_at, length-take-le}
-use borrow.Author.Tests.{eq-eqb, ne_eqb}
+use borrow.Author.Tests.{ne_eqb}
 use Rattle.search.specs.Site.{site, october}
 use Rattle.time_clock.specs.declared.Clock.{Clock}
 use Rattle.list_open.specs.Opening.{number_in, index_in, open_list_value, capacity}
@@ -19,7 +20,8 @@ use Rattle.segment_image.specs.Image.{decode_image, IsImage}
 use Rattle.segment_image.specs.Answers.{OpenedImage}
 use Rattle.search.specs.declared.EntryRecord.{EntryRecord}
 use Rattle.search.specs.declared.Entries.{Entries}
-use Rattle.search.specs.View.{entries_give, SearchesIn}
+use Rattle.search.specs.declared.SearchError.{SearchError}
+use Rattle.search.specs.View.{SearchesIn}
 use Rattle.search.specs.SearchCall.{Searched, search_call}
 use Rattle.listing_text.specs.Text.{report_of, refusal_of, Prints}
 use Rattle.listing_text.specs.Listing.{lent_records, list_in, listed_search, listing_text_value, listing_of}
@@ -33,15 +35,8 @@ text_refused : (n : ℕ) (r : Searched) → (n ≡ 0 → ⊥) → listing_text_v
 unfolding listing_text_value
 text_refused n r h = rw (ne_eqb n 0 h)
 
--- es begins with the records found
-text_report : (n : ℕ) (r : Searched) (es rest : List EntryRecord) → n ≡ 0 → r.lent ≡ take r.count es ++ rest → r.count ≤ length es
-    → listing_text_value n r ≡ report_of (take r.count es) r.probes
-unfolding listing_text_value
-text_report n r es rest z e h =
-    rw (eq-eqb n 0 z) (ap (λ (l : List EntryRecord). report_of l r.probes) (ap (take r.count) e ∙ take_at (take r.count es) rest r.count (length-take-le r.count es h)))
-
 -- a list opened in the image of a new segment
-pub opens_site : {l m : List ℕ} {r : Refusal} {old new : List ℕ} → l ≡ m → IsImage blank old → OpenedImage l 2400 false zero_seconds (refusal_number_value r) (refusal_index_value r) old new → OpensSite m r new
+pub opens_site : {l m : List ℕ} {r : Result (Unit {0}) Refusal} {old new : List ℕ} → l ≡ m → IsImage blank old → OpenedImage l 2400 false zero_seconds (refusal_number_value r) (refusal_index_value r) old new → OpensSite m r new
 unfolding site
 opens_site {l} {m} {r} e i o =
     record {
@@ -61,13 +56,23 @@ module _ (input : List ℕ) {lent after : List ℕ} {r : ℕ} where
       let t : refusal_of n ≡ listing_of input = sym (text_refused n (listed_search (list_in input)) h) ∙ ap (λ (x : ℕ). listing_text_value x (listed_search (list_in input))) e in
       subst (λ (t : List ℕ). Prints lent t r after) t p
 
-  -- f is a search in the image `old`
-  pub lists_report : (n : ℕ) (old new : List ℕ) (k : Clock) (f : Entries) → n ≡ opened_as input → n ≡ 0
-      → decode_image old ≡ site (list_in input) → k ≡ october → SearchesIn old k 10000 capacity f new → length f.entries ≡ capacity
-      → Prints lent (report_of (take f.count f.entries) f.probes) r after → Prints lent (listing_of input) r after
-  unfolding listed_search listing_of capacity
-  lists_report n old new k f e z a b c d p =
-      let g = c.gives lent_records lent_count ∙ ap₂ (λ (x : Clock) (y : Plain). search_call x 10000 lent_records y) b a in
-      let t : report_of (take f.count f.entries) f.probes ≡ listing_text_value n (listed_search (list_in input)) =
-      sym (text_report n (entries_give f (decode_image new) lent_records) f.entries (drop f.count lent_records) z refl (omega (arith, c.fits))) ∙ ap (listing_text_value n) g in
-      subst (λ (t : List ℕ). Prints lent t r after) (t ∙ ap (λ (x : ℕ). listing_text_value x (listed_search (list_in input))) e) p
+  -- a search in the image `old`
+  module _ (old new : List ℕ) (k : Clock) (e : 0 ≡ opened_as input) (a : decode_image old ≡ site (list_in input)) (b : k ≡ october) where
+    listed_as : {q : Searched} → q ≡ search_call k 10000 lent_records (decode_image old) → Prints lent (report_of (take q.count q.lent) q.probes) r after → Prints lent (listing_of input) r after
+    unfolding listed_search listing_of listing_text_value
+    listed_as {q} g p =
+        let t : report_of (take q.count q.lent) q.probes ≡ listing_text_value 0 (listed_search (list_in input)) =
+        ap (listing_text_value 0) (g ∙ ap₂ (λ (x : Clock) (y : Plain). search_call x 10000 lent_records y) b a) in
+        subst (λ (t : List ℕ). Prints lent t r after) (t ∙ ap (λ (x : ℕ). listing_text_value x (listed_search (list_in input))) e) p
+
+    pub lists_report : (f : Entries) (es : List EntryRecord) → SearchesIn old k 10000 capacity (Ok f) new → length f.entries ≡ capacity → es ≡ take f.count f.entries
+        → Prints lent (report_of es f.probes) r after → Prints lent (listing_of input) r after
+    unfolding capacity
+    lists_report f es c d g p =
+        let t : take f.count (take f.count f.entries ++ drop f.count lent_records) ≡ es =
+        take_at (take f.count f.entries) (drop f.count lent_records) f.count (length-take-le f.count f.entries (omega (arith, c.fits, d))) ∙ sym g in
+        listed_as (c.gives lent_records lent_count) (subst (λ (x : List EntryRecord). Prints lent (report_of x f.probes) r after) (sym t) p)
+
+    -- a search that is refused finds nothing
+    pub lists_none : (x : SearchError) → SearchesIn old k 10000 capacity (Err x) new → Prints lent (report_of [] 0) r after → Prints lent (listing_of input) r after
+    lists_none x c p = listed_as (c.gives lent_records lent_count) p

@@ -1,28 +1,22 @@
 -- Texts one behind the other in lent bytes, and how long each text can be.
-use mathlib.Core.Path.{◌≡◌, refl, sym, ap, ap₂, ◌∙◌, subst}
-use mathlib.Core.List.{List, [], ◌∷◌, ◌++◌, append_assoc, append-nil}
-use Prim.Native.Nat.{ℕ, zero, suc, ◌+◌, ◌-◌, ◌*◌, ◌/◌, ◌%◌, ◌^◌, ◌≤◌, ◌<◌, min}
-use native.Mathlib.Nat.{zero-add, div-lt_iff_lt-mul, pow-suc, le_of_suc-le-suc, not-suc-le-zero}
+use mathlib.Core.Path.{◌≡◌, refl, sym, ap, ◌∙◌, subst}
+use mathlib.Core.List.{List, [], ◌∷◌, ◌++◌, map, append_assoc, append-nil}
+use Prim.Native.Nat.{ℕ, zero, suc, ◌+◌, ◌*◌, ◌/◌, ◌%◌, ◌^◌, ◌≤◌, ◌<◌}
+use native.Mathlib.Nat.{zero-add, le_of_suc-le-suc, not-suc-le-zero}
 use native.Mathlib.Numerals.{add-one}
 use native.Mathlib.Omega.{arith}
-use lib.ListN.{length, take, drop, set, get_or, length-append, length-take, length-set, drop_of_length-le}
-use lib.Seq.{paste, paste-zero, length-paste, length-take-le, take-length, take_at, drop_at, drop-drop, drop-cons, drop-set-lt, get_or-set_same}
+use lib.ListN.{length, take, drop, get_or, length-append, length-map, get_or-map}
+use lib.Seq.{paste-zero, length-take-le, take_at, drop_at, drop-drop}
 use borrow.Author.Tests.{le-ltb, lt-ltb}
-use Rattle.laws.proofs.Copying.{Copied, take_min}
+use Rattle.std.specs.Fmt.{decimal}
+use Rattle.std.proofs.lemmas.List.{ext_get_or}
+use Rattle.std.proofs.lemmas.Fmt.{PrependsLastDigit, decimal_from_prepends, decimal_digit, decimal_step, length-decimal-le}
 use Rattle.search.specs.declared.EntryRecord.{EntryRecord}
-use Rattle.listing_text.specs.Text.{in_decimal, number_text, line, lines, first_line, report_of, Wrote, Prints}
+use Rattle.search.specs.declared.Kind.{Kind}
+use Rattle.search.specs.declared.Kind.TheVariants.{One, Mute, Many}
+use Rattle.listing_text.specs.Text.{in_decimal, number_text, digit, eight_digits, word, line, lines, Wrote, Prints}
 
 -- ---- one text behind another
-
--- a copy that came to its end
-pub copied_wrote : {d s l : List ℕ} {at j : ℕ} → Copied d at s j l → j ≡ length s → at + length s ≤ length d → Wrote d at s (at + j) l
-copied_wrote {d} {s} {l} {at} {j} c e h =
-    let f : l ≡ paste d at s (length s) = c.is ∙ ap (paste d at s) e in
-    record {
-      is = f ∙ ap (λ (t : List ℕ). take at d ++ t ++ drop (at + length s) d) (take-length s);
-      end = ap (λ (k : ℕ). at + k) e;
-      long = ap length f ∙ length-paste d at s (length s) h (omega arith);
-    }
 
 pub wrote_then : {l s x t y : List ℕ} {at m r : ℕ} → Wrote l at s m x → Wrote x m t r y → m ≤ length l → Wrote l at (s ++ t) r y
 wrote_then {l} {s} {x} {t} {y} {at} {m} {r} p q h =
@@ -45,13 +39,10 @@ wrote_then {l} {s} {x} {t} {y} {at} {m} {r} p q h =
     }
 
 -- a text from place 0 on
-pub wrote_prints : {l s x : List ℕ} {r : ℕ} → Wrote l 0 s r x → Prints l s r x
-wrote_prints {l} {s} {x} {r} p =
-    record { count = p.end ∙ zero-add (length s); is = p.is ∙ ap (λ (k : ℕ). s ++ drop k l) (zero-add (length s)) }
-
--- a printed text lies within the lent bytes
-pub prints_within : {l s x : List ℕ} {r : ℕ} → Prints l s r x → r ≤ length x
-prints_within {l} {s} {x} {r} p = omega (arith, p.count, ap length p.is, length-append s (drop (length s) l))
+pub wrote_printed : {l s x : List ℕ} {at r : ℕ} → at ≡ 0 → Wrote l at s r x → Prints l s r x
+wrote_printed {l} {s} {x} {at} {r} e p =
+    let q : Wrote l 0 s r x = subst (λ (k : ℕ). Wrote l k s r x) e p in
+    record { count = q.end ∙ zero-add (length s); is = q.is ∙ ap (λ (k : ℕ). s ++ drop k l) (zero-add (length s)) }
 
 pub wrote_as : {l s t x : List ℕ} {at r : ℕ} → s ≡ t → Wrote l at s r x → Wrote l at t r x
 wrote_as {l} {s} {t} {x} {at} {r} e p = subst (λ (u : List ℕ). Wrote l at u r x) e p
@@ -62,67 +53,50 @@ wrote_none {l} {at} = record { is = paste-zero l at []; end = omega arith; long 
 
 -- ---- a number
 
--- rest is what is still to be written of n, before the digits of ds from place i on
-pub record Spelling (n i rest : ℕ) (ds : List ℕ) : Type 0 where
-  pub is : in_decimal i rest (drop i ds) ≡ number_text n
-  pub small : rest < 10 ^ i
-  pub some : 0 < i
-  pub fits : i ≤ 10
-  pub long : length ds ≡ 10
-
-pub spelling_none : {n : ℕ} {ds : List ℕ} → n < 4294967296 → length ds ≡ 10 → Spelling n 10 n ds
-unfolding number_text
-spelling_none {n} {ds} h e =
-    record { is = ap (in_decimal 10 n) (drop_of_length-le ds {i = 10} (omega arith)); small = omega arith; some = omega arith; fits = omega arith; long = e }
-
--- a digit is stored before the others
-drop-stored : (ds : List ℕ) (j v : ℕ) → j < length ds → drop j (set ds j v) ≡ v ∷ drop (suc j) ds
-drop-stored ds j v h =
-    drop-cons (set ds j v) j 0 (rw length-set h)
-    ∙ ap₂ (λ (x : ℕ) (r : List ℕ). x ∷ r) (get_or-set_same ds j v 0 h) (drop-set-lt (suc j) ds j v (omega arith))
-
-some_left : (i rest : ℕ) → rest < 10 ^ i → 0 < rest → 0 < i
-some_left zero rest h k = absurd (omega arith)
-some_left (suc i) rest h k = omega arith
-
-decimal_more : (d n : ℕ) (after : List ℕ) → 10 ≤ n → in_decimal (suc d) n after ≡ in_decimal d (n / 10) ((0x30 + n % 10) ∷ after)
+prepends : PrependsLastDigit in_decimal
 unfolding in_decimal
-decimal_more d n after h = rw (le-ltb n 10 h)
-
-decimal_last : (d n : ℕ) (after : List ℕ) → n < 10 → in_decimal (suc d) n after ≡ (0x30 + n) ∷ after
-unfolding in_decimal
-decimal_last d n after h = rw (lt-ltb n 10 h)
-
-pub spelling_more : {n i rest : ℕ} {ds : List ℕ} → Spelling n i rest ds → 10 ≤ rest → Spelling n (i - 1) (rest / 10) (set ds (i - 1) (0x30 + rest % 10))
-spelling_more {n} {i} {rest} {ds} p h =
-    let k : ℕ = i - 1 in
-    let e : i ≡ suc k = omega (arith, p.some) in
-    let b : k < length ds = omega (arith, p.some, p.fits, p.long) in
-    let s : rest < 10 ^ k * 10 = rw (sym (pow-suc 10 k), sym e) p.small in
-    let t : rest / 10 < 10 ^ k = (div-lt_iff_lt-mul {k = 10} {x = rest} {y = 10 ^ k} (omega arith)).1 s in
+prepends =
     record {
-      is =
-          ap (in_decimal k (rest / 10)) (drop-stored ds k (0x30 + rest % 10) b)
-          ∙ sym (decimal_more k rest (drop (suc k) ds) h)
-          ∙ ap (λ (m : ℕ). in_decimal m rest (drop m ds)) (sym e)
-          ∙ p.is;
-      small = t;
-      some = some_left k (rest / 10) t (omega arith);
-      fits = omega (arith, p.fits);
-      long = length-set ds k (0x30 + rest % 10) ∙ p.long;
+      one = λ (k n : ℕ) (after : List ℕ) (h : n < 10). rw (lt-ltb n 10 h) refl;
+      more = λ (k n : ℕ) (after : List ℕ) (h : 10 ≤ n). rw (le-ltb n 10 h) refl;
     }
 
-pub spelling_done : {n i rest : ℕ} {ds : List ℕ} → Spelling n i rest ds → rest < 10 → drop (i - 1) (set ds (i - 1) (0x30 + rest)) ≡ number_text n
-spelling_done {n} {i} {rest} {ds} p h =
-    let k : ℕ = i - 1 in
-    let e : i ≡ suc k = omega (arith, p.some) in
-    let b : k < length ds = omega (arith, p.some, p.fits, p.long) in
-    drop-stored ds k (0x30 + rest) b
-    ∙ sym (decimal_last k rest (drop (suc k) ds) h)
-    ∙ ap (λ (m : ℕ). in_decimal m rest (drop m ds)) (sym e)
-    ∙ p.is
+number_decimal : (n : ℕ) → n < 2 ^ 32 → number_text n ≡ decimal n
+unfolding number_text
+number_decimal n h =
+    decimal_from_prepends in_decimal prepends 10 n [] (omega (arith, h)) (length-decimal-le 10 n (omega arith) (omega (arith, h)) (omega (arith, h)))
+    ∙ append-nil (decimal n)
+
+-- a number of one digit
+pub number_one : {n : ℕ} → n < 10 → number_text n ≡ (0x30 + n % 10) ∷ []
+number_one {n} h =
+    let e : n ≡ n % 10 = omega (arith, h) in
+    number_decimal n (omega (arith, h)) ∙ decimal_digit n h ∙ ap (λ (d : ℕ). (0x30 + d) ∷ []) e
+
+-- the last digit stands behind the others
+pub number_more : {n : ℕ} → 10 ≤ n → n < 2 ^ 32 → number_text n ≡ number_text (n / 10) ++ ((0x30 + n % 10) ∷ [])
+number_more {n} k h =
+    number_decimal n h
+    ∙ decimal_step n k (omega (arith, h))
+    ∙ ap (λ (t : List ℕ). t ++ ((0x30 + n % 10) ∷ [])) (sym (number_decimal (n / 10) (omega (arith, h))))
+
+pub number_longer : {n : ℕ} → 10 ≤ n → n < 2 ^ 32 → length (number_text n) ≡ length (number_text (n / 10)) + 1
+number_longer {n} k h = ap length (number_more k h) ∙ length-append (number_text (n / 10)) ((0x30 + n % 10) ∷ [])
+
+pub number_short : {n : ℕ} → n < 2 ^ 32 → length (number_text n) ≤ 10
+number_short {n} h = rw (number_decimal n h) (length-decimal-le 10 n (omega arith) (omega (arith, h)) (omega (arith, h)))
 
 -- ---- the lines
+
+pub word_short : (k : Kind) → length (word k) ≤ 5
+word_short One = omega arith
+word_short Mute = omega arith
+word_short Many = omega arith
+
+-- what a call of `digit` at each gives
+pub each_digit : (ds ys : List ℕ) → length ys ≡ 8 → length ds ≡ 8 → ((i : ℕ) → i < 8 → get_or ys i (digit 0) ≡ digit (get_or ds i 0)) → ys ≡ eight_digits ds
+each_digit ds ys e d f =
+    ext_get_or (digit 0) ys (map digit ds) (e ∙ sym (length-map ds digit ∙ d)) (λ (i : ℕ) (h : i < length ys). f i (omega (arith, h, e)) ∙ sym (get_or-map digit ds i 0))
 
 lines_more : (es : List EntryRecord) (i : ℕ) (d : EntryRecord) → i < length es → lines (take (suc i) es) ≡ lines (take i es) ++ line (get_or es i d)
 lines_more [] i d h = absurd (not-suc-le-zero h)
@@ -144,10 +118,3 @@ lined_more {lent} {out} {after} {at} {i} {end} {r} {es} d p h k w b =
       wrote = rw (add-one, lines_more es i d h) (wrote_then p.wrote w k);
       room = omega (arith, p.room);
     }
-
-pub report_is : (es : List EntryRecord) (count n probes : ℕ) → n ≡ min count (length es) → first_line n probes ++ lines (take n es) ≡ report_of (take count es) probes
-unfolding report_of
-report_is es count n probes e =
-    let f : n ≡ length (take count es) = e ∙ sym (length-take count es) in
-    let g : take n es ≡ take count es = ap (λ (k : ℕ). take k es) e ∙ take_min count es in
-    ap₂ (λ (k : ℕ) (r : List EntryRecord). first_line k probes ++ lines r) f g

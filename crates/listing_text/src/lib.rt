@@ -7,15 +7,16 @@ ghost use Rattle.listing_text.specs.Listing.{list_in, listing_of};
 ghost use Rattle.listing_text.specs.ProgramListing.{OpensSite};
 ghost use Rattle.listing_text.specs.Text.{Prints};
 
-use laws::least;
 use list_check::refusal::Refusal;
 use segment::{METERS, Segment};
 use segment_image::IMAGE;
 use time_clock::Clock;
 
-mod report; // report.rt: the text for the entries of a search, and for a refused list
+mod page; // page.rt: a text at the start of lent bytes
+mod refusal; // refusal.rt: the text for a refused list
+mod report; // report.rt: the text for the entries of a search
 
-use report::Printed;
+use page::Page;
 
 // Line 1 has at most 38 bytes, an entry's line at most 25.
 pub const TEXT: usize = 38 + 25 * METERS;
@@ -37,39 +38,38 @@ fn clock() -> Clock
 }
 
 // The opening of a new segment, in its image.
-fn open_list(image: &mut [u8; IMAGE], input: &[u8]) -> Refusal
+fn open_list(image: &mut [u8; IMAGE], input: &[u8]) -> Result<(), Refusal>
     ensures { OpensSite (list_in input.now) result image.new }
 {
     segment_image::write_image(Segment::new(), image);
-    let n = least(INPUT, input.len());
-    segment_calls::open(image, &input[..n], 2400, false, 0.0)
+    let read = &input[..INPUT.min(input.len())];
+    segment_calls::open(image, read, 2400, false, 0.0)
 }
 
-fn no_image() -> [u8; IMAGE] {
-    [0u8; IMAGE]
-}
-
-fn list_into(input: &[u8], lent: [u8; TEXT]) -> Printed
-    ensures { Prints lent (listing_of input.now) result.len result.bytes }
+fn list_into(input: &[u8], page: &mut Page)
+    requires { page.old.len ≡ 0 }
+    ensures { Prints page.old.bytes (listing_of input.now) page.new.len page.new.bytes }
 {
-    let mut image = no_image();
-    let answer = open_list(&mut image, input);
-    let n = list_check::refusal::refusal_number(answer);
-    if n != 0 {
-        return report::refusal(lent, n);
+    let mut image = [0u8; IMAGE];
+    if let Err(refusal) = open_list(&mut image, input) {
+        return page.push_refusal(refusal.number());
     }
-    let found = search::search_listed(&mut image, clock(), 10000, METERS);
-    let entries = found.entries;
-    report::report(lent, entries, found.count, found.probes)
+    match search::search_listed(&mut image, clock(), 10000, METERS) {
+        Ok(found) => { page.push_report(&found.entries[..found.count.min(METERS)], found.probes) }
+        Err(_) => page.push_report(&[], 0),
+    }
 }
 
 // What the listing program writes for what it reads: the text at the start of the lent bytes, and its length.
+// The bytes are lent and no `Vec`: allocating would bring further C contracts into what is trusted.
 pub fn listing(input: &[u8], out: &mut [u8; TEXT]) -> usize
     ensures { Prints out.old (listing_of input.now) result out.new }
 {
-    let lent = *out;
-    let text = list_into(input, lent);
-    let bytes = text.bytes;
-    *out = bytes;
-    text.len
+    let mut page = Page {
+        bytes: *out,
+        len: 0,
+    };
+    list_into(input, &mut page);
+    *out = page.bytes;
+    page.len
 }

@@ -1,3 +1,4 @@
+pub mod Kinds
 pub mod Meter
 pub mod PlainMeter
 pub mod View

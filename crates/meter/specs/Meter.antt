@@ -1,10 +1,8 @@
 -- The changes of a meter's parts, and whether it hears a telegram (01, "Send, select, receive").
-use Rattle.std.specs.Prelude.{Bool, true, false, not, List, [], ◌∷◌, ℕ, if◌then◌else◌}
+use Rattle.std.specs.Prelude.{Option, None as no_fcb, Bool, true, false, not, List, [], ◌∷◌, ℕ, if◌then◌else◌}
 use Rattle.meter.specs.PlainMeter.{PlainMeter}
 use Rattle.meter.specs.declared.Fault.{Fault}
 use Rattle.meter.specs.declared.Fault.TheVariants.{None, Checksum, Truncated, Busy, WrongAddress, Flaky, TooMany}
-use Rattle.meter.specs.declared.LastFcb.{LastFcb}
-use Rattle.meter.specs.declared.LastFcb.TheVariants.{Never}
 
 -- BAUD_RATES, number 0 to 7
 unfoldable pub rates : List ℕ
@@ -15,7 +13,7 @@ rates = 300 ∷ 600 ∷ 1200 ∷ 2400 ∷ 4800 ∷ 9600 ∷ 19200 ∷ 38400 ∷ 
 -- what telegrams change stands in five groups: how it is reached, whether it is selected, where its readout stands,
 -- what is counted,
 -- and whether a flaky one hears next
-abbrev pub with : PlainMeter → (reached : ℕ × ℕ) → (selected : Bool) → (standing : ℕ × LastFcb) → (counters : ℕ × ℕ) → (hears_next : Bool) → PlainMeter
+abbrev pub with : PlainMeter → (reached : ℕ × ℕ) → (selected : Bool) → (standing : ℕ × Option Bool) → (counters : ℕ × ℕ) → (hears_next : Bool) → PlainMeter
 with m reached selected standing counters hears_next =
     record {
       primary = reached.0;
@@ -39,7 +37,7 @@ with m reached selected standing counters hears_next =
 abbrev pub reached : PlainMeter → ℕ × ℕ
 reached m = (m.primary, m.baud)
 
-abbrev pub standing : PlainMeter → ℕ × LastFcb
+abbrev pub standing : PlainMeter → ℕ × Option Bool
 standing m = (m.part, m.last)
 
 abbrev pub counters : PlainMeter → ℕ × ℕ
@@ -57,7 +55,7 @@ with_selected_value s m = with m (reached m) s (standing m) (counters m) m.hears
 abbrev pub with_hears_next : Bool → PlainMeter → PlainMeter
 with_hears_next h m = with m (reached m) m.selected (standing m) (counters m) h
 
-abbrev pub with_standing_value : ℕ × LastFcb → PlainMeter → PlainMeter
+abbrev pub with_standing_value : ℕ × Option Bool → PlainMeter → PlainMeter
 with_standing_value s m = with m (reached m) m.selected s (counters m) m.hears_next
 
 abbrev pub with_counters_value : ℕ × ℕ → PlainMeter → PlainMeter
@@ -65,7 +63,7 @@ with_counters_value c m = with m (reached m) m.selected (standing m) c m.hears_n
 
 -- "reset": part 0 and no last FCB, as a fresh meter has them
 abbrev pub reset : PlainMeter → PlainMeter
-reset m = with_standing_value (0, Never) m
+reset m = with_standing_value (0, no_fcb) m
 
 -- ---- hearing
 

@@ -1,10 +1,9 @@
 -- A meter of the plain segment (01, "The plain segment"): "each with its record's values (primary and baud as they
 -- now are, the id as its eight
 -- digits), seed, access, selection, part, last FCB, readouts and whether a flaky one hears next".
-use Rattle.std.specs.Prelude.{Bool, List, ℕ}
+use Rattle.std.specs.Prelude.{Bool, Option, List, ℕ}
 use Rattle.meter.specs.declared.Fault.{Fault}
 use Rattle.meter.specs.declared.Model.{Model}
-use Rattle.meter.specs.declared.LastFcb.{LastFcb}
 
 pub record PlainMeter : Type 0 where
   pub primary : ℕ
@@ -18,7 +17,7 @@ pub record PlainMeter : Type 0 where
   pub baud : ℕ
   pub selected : Bool
   pub part : ℕ
-  pub last : LastFcb
+  pub last : Option Bool
   pub readouts : ℕ
   pub seed : ℕ
   pub hears_next : Bool

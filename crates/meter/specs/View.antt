@@ -1,9 +1,8 @@
 -- The program's meter in the terms of the definitions.
 use Rattle.meter_identity.specs.Identity.{digits_of_value}
-use Rattle.std.specs.Prelude.{false}
+use Rattle.std.specs.Prelude.{false, None as no_fcb}
 use Rattle.meter.specs.declared.Fault.TheVariants.{None}
 use Rattle.meter.specs.declared.Model.TheVariants.{Heat}
-use Rattle.meter.specs.declared.LastFcb.TheVariants.{Never}
 use Rattle.meter.specs.declared.Meter.{Meter}
 use Rattle.meter.specs.PlainMeter.{PlainMeter}
 
@@ -32,5 +31,5 @@ unfoldable pub blank_meter_value : Meter
 blank_meter_value =
     record {
       built = record { id = 0; manufacturer = 0; version = 0; medium = 0; model = Heat; fault = None; seed = 0 };
-      state = record { primary = 0; access = 0; selected = false; part = 0; last = Never; readouts = 0; hearing = false; baud = 0 };
+      state = record { primary = 0; access = 0; selected = false; part = 0; last = no_fcb; readouts = 0; hearing = false; baud = 0 };
     }

@@ -1,27 +1,26 @@
 // A simulated meter: what it keeps, and the changes of its parts.
 #![tactic(auto)]
 
-ghost use Rattle.std.specs.Prelude.{◌≡◌, get_or};
+ghost use Rattle.std.specs.Prelude.{◌≡◌, slice_get};
 ghost use Rattle.meter.specs.Meter.{rates};
 ghost use Rattle.meter.specs.View.{blank_meter_value};
 
-pub mod changes; // changes.rt: a meter with some of its parts changed, and whether it hears
+mod changes; // changes.rt: a meter with some of its parts changed, and whether it hears
+mod kinds; // kinds.rt: models and faults by their numbers
 
 // The rates that a meter can be set to, by number.
 pub const BAUD_RATES: [u32; 8] = [300, 600, 1200, 2400, 4800, 9600, 19200, 38400];
 
-// The rate of a number, 0 where there is none.
-pub fn rate_of(n: u8) -> u32
-    ensures { result ≡ get_or rates n 0 }
+// The rate of a number, if there is one.
+#[tactic(auto, unfolding(crate::specs::Meter::rates))]
+pub fn rate_of(n: u8) -> Option<u32>
+    ensures { result ≡ slice_get rates n }
 {
-    let i = n as usize;
-    if i < 8 {
-        return BAUD_RATES[i];
-    }
-    0
+    BAUD_RATES.get(usize::from(n)).copied()
 }
 
-#[derive(Clone, Copy)]
+// The fault of a meter; `None` is one of the seven words that a list has for it.
+#[derive(Clone, Copy, PartialEq, Eq, Debug)]
 pub enum Fault {
     None,
     Checksum,
@@ -36,7 +35,7 @@ pub enum Fault {
     TooMany,
 }
 
-#[derive(Clone, Copy)]
+#[derive(Clone, Copy, PartialEq, Eq, Debug)]
 pub enum Model {
     Heat,
     Electricity,
@@ -45,16 +44,8 @@ pub enum Model {
     Fixed,
 }
 
-// The alternation bit of the last REQ_UD2, if there was one.
-#[derive(Clone, Copy)]
-pub enum LastFcb {
-    Never,
-    Clear,
-    Set,
-}
-
 // What an opening fixes.
-#[derive(Clone, Copy)]
+#[derive(Clone, Copy, PartialEq, Eq, Debug)]
 pub struct Built {
     // eight BCD digits, the most significant one in the highest nibble
     pub id: u32,
@@ -68,13 +59,14 @@ pub struct Built {
 }
 
 // What calls change. The bytes stand together, so that they are copied as one word.
-#[derive(Clone, Copy)]
+#[derive(Clone, Copy, PartialEq, Eq, Debug)]
 pub struct State {
     pub primary: u8,
     pub access: u8,
     pub selected: bool,
     pub part: u8,
-    pub last: LastFcb,
+    // the FCB, the alternation bit, of the last REQ_UD2, if there was one
+    pub last: Option<bool>,
     // of a meter with Fault::TooMany, up to 3
     pub readouts: u8,
     // of a meter with Fault::Flaky: whether it hears the next telegram
@@ -82,37 +74,38 @@ pub struct State {
     pub baud: u32,
 }
 
-#[derive(Clone, Copy)]
+#[derive(Clone, Copy, PartialEq, Eq, Debug)]
 pub struct Meter {
     pub built: Built,
     pub state: State,
 }
 
 // What stands where there is no meter.
-pub fn blank_meter() -> Meter
-    ensures { result ≡ blank_meter_value }
-{
-    let built = Built {
-        id: 0,
-        manufacturer: 0,
-        version: 0,
-        medium: 0,
-        model: Model::Heat,
-        fault: Fault::None,
-        seed: 0,
-    };
-    let state = State {
-        primary: 0,
-        access: 0,
-        selected: false,
-        part: 0,
-        last: LastFcb::Never,
-        readouts: 0,
-        hearing: false,
-        baud: 0,
-    };
-    Meter {
-        built: built,
-        state: state,
+impl Default for Meter {
+    ghost is_default = { λ m. m ≡ blank_meter_value };
+
+    #[tactic(auto, unfolding(crate::specs::View::blank_meter_value))]
+    fn default() -> Meter {
+        Meter {
+            built: Built {
+                id: 0,
+                manufacturer: 0,
+                version: 0,
+                medium: 0,
+                model: Model::Heat,
+                fault: Fault::None,
+                seed: 0,
+            },
+            state: State {
+                primary: 0,
+                access: 0,
+                selected: false,
+                part: 0,
+                last: None,
+                readouts: 0,
+                hearing: false,
+                baud: 0,
+            },
+        }
     }
 }

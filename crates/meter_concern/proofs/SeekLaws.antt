@@ -213,6 +213,9 @@ seeks_mask d h small m e k =
 pub few_none : (d : List ℕ) → length d < 8 → (p : ℕ) (s : Bool) (i : ℕ) → s ≡ (s || id_matches_value d (digits_of_value i))
 few_none d h p s i = sym (ap (λ x. s || (x && alike (nibbles d) (digits_of_value i))) (lt-leb 8 (length d) h) ∙ or_false s)
 
+pub reaches_everybody : (a : ℕ) → 253 < a → a < 256 → (p : ℕ) (s : Bool) (i : ℕ) → true ≡ reaches a p s
+reaches_everybody a f g p s i = grind arith
+
 pub reaches_other : (a : ℕ) → (a ≡ 0xFF → ⊥) → (a ≡ 0xFE → ⊥) → (a ≡ 0xFD → ⊥) → (p : ℕ) (s : Bool) (i : ℕ) → eqb p a ≡ reaches a p s
 reaches_other a f g h p s i = rw (ne_eqb a 0xFE g, ne_eqb a 0xFF f, ne_eqb a 0xFD h)
 

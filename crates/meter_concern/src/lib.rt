@@ -17,41 +17,31 @@ use numbers::four;
 // The selected, if they are sought; and those whose first bytes in an image (primary address, id and three more, low
 // byte first) have the
 // bits wanted where the mask has them. Under mask 0 everybody has 0, and nobody 1.
-#[derive(Clone, Copy)]
+#[derive(Clone, Copy, PartialEq, Eq, Debug)]
 pub struct Seeking {
     pub selected: bool,
     pub mask: u64,
     pub want: u64,
 }
 
-fn every() -> Seeking
-    ensures { Seeks (λ p s i. true) result }
-{
-    Seeking {
+impl Seeking {
+    const EVERYBODY: Seeking = Seeking {
         selected: false,
         mask: 0,
         want: 0,
-    }
-}
+    };
 
-fn nobody() -> Seeking
-    ensures { Seeks (λ p s i. false) result }
-{
-    Seeking {
+    const NOBODY: Seeking = Seeking {
         selected: false,
         mask: 0,
         want: 1,
-    }
-}
+    };
 
-fn the_selected() -> Seeking
-    ensures { Seeks (λ p s i. s) result }
-{
-    Seeking {
+    const THE_SELECTED: Seeking = Seeking {
         selected: true,
         mask: 0,
         want: 1,
-    }
+    };
 }
 
 // F for a digit of the mask that is known, and the same of the two digits of a byte.
@@ -71,7 +61,7 @@ fn known(mask: u8) -> u8
 fn behind_primary(id: u32) -> u64
     ensures { result ≡ 256 * id }
 {
-    256 * (id as u64)
+    256 * u64::from(id)
 }
 
 // A select seeks the selected, and those whose id it matches.
@@ -79,7 +69,7 @@ fn by_id(data: &[u8]) -> Seeking
     ensures { Seeks (λ p s i. s || id_matches_value «data».now (digits_of_value i)) result }
 {
     if data.len() < 8 {
-        return the_selected();
+        return Seeking::THE_SELECTED;
     }
     let mask = four(
         known(data[0]),
@@ -98,53 +88,46 @@ fn by_id(data: &[u8]) -> Seeking
 fn by_address(address: u8) -> Seeking
     ensures { Seeks (λ p s i. reaches address p s) result }
 {
-    if address == frame::ADDR_BROADCAST {
-        return every();
-    }
-    if address == frame::ADDR_BROADCAST_REPLY {
-        return every();
-    }
-    if address == frame::ADDR_SELECTED {
-        return the_selected();
-    }
-    Seeking {
-        selected: false,
-        mask: 255,
-        want: address as u64,
+    match address {
+        frame::ADDR_BROADCAST | frame::ADDR_BROADCAST_REPLY => Seeking::EVERYBODY,
+        frame::ADDR_SELECTED => Seeking::THE_SELECTED,
+        _ => Seeking {
+            selected: false,
+            mask: 255,
+            want: u64::from(address),
+        },
     }
 }
 
 fn by_long(address: u8, ci: u8, data: &[u8]) -> Seeking
     ensures { (c : ℕ) → Seeks (concerns_by (long c address ci «data».now)) result }
 {
-    if ci == frame::CI_SELECT {
-        if address == frame::ADDR_SELECTED {
-            return by_id(data);
-        }
+    if ci == frame::CI_SELECT && address == frame::ADDR_SELECTED {
+        by_id(data)
+    } else {
+        by_address(address)
     }
-    by_address(address)
 }
 
 // Seeks the meters that the telegram concerns.
-pub fn sought_by(frame: Frame, data: &[u8]) -> Seeking
-    ensures { Seeks (concerns_by (telegram_of frame «data».now)) result }
+pub fn sought_by(frame: Frame<'_>) -> Seeking
+    ensures { Seeks (concerns_by (telegram_of frame.entry)) result }
 {
     match frame {
-        Frame::Ack => nobody(),
-        Frame::Short {
-            control: _,
-            address,
-        } => by_address(address),
+        Frame::Ack => Seeking::NOBODY,
+        Frame::Short { address, .. } => by_address(address),
         Frame::Long {
-            control: _,
             address,
             ci,
+            data,
+            ..
         } => by_long(address, ci, data),
     }
 }
 
 // Whether a meter is sought, by its first eight bytes in an image and its selection; whatever test q stands for, it
-// is that test.
+// is that test. Eight numbers and no array: they lie at eight places of an image, and an array of them would name the
+// same eight on both sides.
 pub fn is_sought(
     q: Seeking,
     primary: u8,
@@ -162,6 +145,6 @@ pub fn is_sought(
 {
     let low = four(primary, id0, id1, id2);
     let high = four(id3, x, y, z);
-    let word = low as u64 + 4294967296 * (high as u64);
+    let word = u64::from(low) + 4294967296 * u64::from(high);
     (selected & q.selected) | (word & q.mask == q.want)
 }

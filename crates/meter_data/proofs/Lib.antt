@@ -1,1 +1,1 @@
-pub mod RecordLaws
+pub mod PutLaws

@@ -1,13 +1,11 @@
 -- A meter that is asked for its readout (01, "A lone meter is read"): which part it sends, and what it counts.
-use Rattle.std.specs.Prelude.{ℕ, ◌+◌, ◌%◌, min, Bool, true, false}
+use Rattle.std.specs.Prelude.{Option, Some, None as no_fcb, ℕ, ◌+◌, ◌%◌, min, Bool, true, false}
 use Rattle.meter.specs.PlainMeter.{PlainMeter}
 use Rattle.meter.specs.Meter.{with, reached}
 use Rattle.meter.specs.declared.Fault.{Fault}
 use Rattle.meter.specs.declared.Fault.TheVariants.{None, Checksum, Truncated, Busy, WrongAddress, Flaky, TooMany}
 use Rattle.meter.specs.declared.Model.{Model}
 use Rattle.meter.specs.declared.Model.TheVariants.{Heat, Electricity, Water, Fixed}
-use Rattle.meter.specs.declared.LastFcb.{LastFcb}
-use Rattle.meter.specs.declared.LastFcb.TheVariants.{Never, Clear, Set}
 
 -- "Heat has two": how many parts a readout has
 abbrev pub parts : Model → ℕ
@@ -20,17 +18,16 @@ abbrev pub next_part_value : Model → ℕ → ℕ
 next_part_value model part = (part + 1) % parts model
 
 -- "No last FCB: part 0; changed: next part (Heat has two); equal: same part, built afresh."
-abbrev pub part_now_value : Model → LastFcb → Bool → ℕ → ℕ
-part_now_value model Never fcb part = 0
-part_now_value model Clear false part = part
-part_now_value model Clear true part = next_part_value model part
-part_now_value model Set false part = next_part_value model part
-part_now_value model Set true part = part
+abbrev pub part_now_value : Model → Option Bool → Bool → ℕ → ℕ
+part_now_value model no_fcb fcb part = 0
+part_now_value model (Some false) false part = part
+part_now_value model (Some false) true part = next_part_value model part
+part_now_value model (Some true) false part = next_part_value model part
+part_now_value model (Some true) true part = part
 
 -- the FCB of the request is the last one from now on
-abbrev pub fcb_now_value : Bool → LastFcb
-fcb_now_value true = Set
-fcb_now_value false = Clear
+abbrev pub fcb_now_value : Bool → Option Bool
+fcb_now_value fcb = Some fcb
 
 -- "the third and later readouts since opening": a too_many meter counts. "The readout count stops at 3"
 abbrev pub readouts_now_value : Fault → ℕ → ℕ

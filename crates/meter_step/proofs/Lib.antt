@@ -1,5 +1,4 @@
 pub mod HearLaws
 pub mod KeepLaws
 pub mod Slips
-pub mod StepLaws
 pub mod Worked

@@ -14,8 +14,7 @@ use Rattle.meter.specs.PlainMeter.{PlainMeter}
 use Rattle.time_clock.specs.declared.Clock.{Clock}
 use Rattle.meter.specs.declared.Fault.{Fault}
 use Rattle.meter.specs.declared.Fault.TheVariants.{None, Busy, TooMany}
-use Rattle.meter.specs.declared.LastFcb.{LastFcb}
-use Rattle.meter.specs.declared.LastFcb.TheVariants.{Never, Clear}
+use Rattle.std.specs.Prelude.{Option, Some, None as no_fcb}
 use Rattle.meter.specs.declared.Model.{Model}
 use Rattle.meter.specs.declared.Model.TheVariants.{Heat, Electricity, Water, Fixed}
 use Rattle.meter.specs.Meter.{hears, offered}
@@ -44,7 +43,7 @@ abbrev pub midnight : Clock
 midnight = record { now = fin false 0 (pos 0); year = 2026; month = 10; day = 1; hour = 0; minute = 0 }
 
 -- id 12345678 with its seed, 43,672; KAM, version 1
-abbrev pub meter : Model → ℕ → Fault → ℕ → LastFcb → ℕ → PlainMeter
+abbrev pub meter : Model → ℕ → Fault → ℕ → Option Bool → ℕ → PlainMeter
 meter model medium fault access last readouts =
     record {
       primary = 5;
@@ -69,7 +68,7 @@ abbrev pub reply : ℕ → PlainMeter → Reply
 reply seconds m = (hear 2400 (short 0x7B 5) (fin false seconds (pos 0)) midnight m).reply
 
 -- Heat, part 0, after 59 s
-pub heat_0 : reply 59 (meter Heat 4 None 0 Never 0)
+pub heat_0 : reply 59 (meter Heat 4 None 0 no_fcb 0)
     ≡ says
     (0x68 ∷ 0x4E ∷ 0x4E ∷ 0x68 ∷ 0x08 ∷ 0x05 ∷ 0x72 ∷ 0x78 ∷ 0x56 ∷ 0x34 ∷ 0x12 ∷ 0x2D ∷ 0x2C ∷ 0x01 ∷ 0x04 ∷ 0x01 ∷ 0x00 ∷ 0x00 ∷ 0x00 ∷ 0x04
     ∷ 0x06 ∷ 0xDD ∷ 0x8C ∷ 0x02 ∷ 0x00 ∷ 0x04 ∷ 0x14 ∷ 0x2B ∷ 0xF8 ∷ 0x08 ∷ 0x00 ∷ 0x04 ∷ 0x2B ∷ 0x42 ∷ 0x30 ∷ 0x00 ∷ 0x00 ∷ 0x02 ∷ 0x59 ∷ 0x7B
@@ -80,7 +79,7 @@ unfolding hear listens target request hears offered asked readout response user_
 heat_0 = refl
 
 -- Heat once the FCB has changed: the second part
-pub heat_1 : reply 59 (meter Heat 4 None 1 Clear 0)
+pub heat_1 : reply 59 (meter Heat 4 None 1 (Some false) 0)
     ≡ says
     (0x68 ∷ 0x1F ∷ 0x1F ∷ 0x68 ∷ 0x08 ∷ 0x05 ∷ 0x72 ∷ 0x78 ∷ 0x56 ∷ 0x34 ∷ 0x12 ∷ 0x2D ∷ 0x2C ∷ 0x01 ∷ 0x04 ∷ 0x02 ∷ 0x00 ∷ 0x00 ∷ 0x00 ∷ 0x84
     ∷ 0x01 ∷ 0x06 ∷ 0xB0 ∷ 0xAD ∷ 0x01 ∷ 0x00 ∷ 0x82 ∷ 0x01 ∷ 0x6C ∷ 0x3E ∷ 0x39 ∷ 0x0F ∷ 0x01 ∷ 0x02 ∷ 0x03 ∷ 0x57 ∷ 0x16 ∷ [])
@@ -88,7 +87,7 @@ unfolding hear listens target request hears offered asked readout response user_
 heat_1 = refl
 
 -- Electricity, after 59 s
-pub electricity_59 : reply 59 (meter Electricity 2 None 0 Never 0)
+pub electricity_59 : reply 59 (meter Electricity 2 None 0 no_fcb 0)
     ≡ says
     (0x68 ∷ 0x4B ∷ 0x4B ∷ 0x68 ∷ 0x08 ∷ 0x05 ∷ 0x72 ∷ 0x78 ∷ 0x56 ∷ 0x34 ∷ 0x12 ∷ 0x2D ∷ 0x2C ∷ 0x01 ∷ 0x02 ∷ 0x01 ∷ 0x00 ∷ 0x00 ∷ 0x00 ∷ 0x0E
     ∷ 0x03 ∷ 0x37 ∷ 0x77 ∷ 0x01 ∷ 0x56 ∷ 0x00 ∷ 0x00 ∷ 0x8E ∷ 0x10 ∷ 0x03 ∷ 0x00 ∷ 0x00 ∷ 0x00 ∷ 0x08 ∷ 0x00 ∷ 0x00 ∷ 0x8E ∷ 0x20 ∷ 0x03 ∷ 0x78
@@ -99,7 +98,7 @@ unfolding hear listens target request hears offered asked readout response user_
 electricity_59 = refl
 
 -- Water, after 59 s
-pub water_59 : reply 59 (meter Water 7 None 0 Never 0)
+pub water_59 : reply 59 (meter Water 7 None 0 no_fcb 0)
     ≡ says
     (0x68 ∷ 0x25 ∷ 0x25 ∷ 0x68 ∷ 0x08 ∷ 0x05 ∷ 0x72 ∷ 0x78 ∷ 0x56 ∷ 0x34 ∷ 0x12 ∷ 0x2D ∷ 0x2C ∷ 0x01 ∷ 0x07 ∷ 0x01 ∷ 0x00 ∷ 0x00 ∷ 0x00 ∷ 0x0C
     ∷ 0x13 ∷ 0x19 ∷ 0x92 ∷ 0x42 ∷ 0x00 ∷ 0x4C ∷ 0x13 ∷ 0x00 ∷ 0x00 ∷ 0x10 ∷ 0x00 ∷ 0x42 ∷ 0x6C ∷ 0x3F ∷ 0x3C ∷ 0x04 ∷ 0x6D ∷ 0x00 ∷ 0x00 ∷ 0x41
@@ -108,7 +107,7 @@ unfolding hear listens target request hears offered asked readout response user_
 water_59 = refl
 
 -- heat_old, after two minutes
-pub fixed_120 : reply 120 (meter Fixed 4 None 0 Never 0)
+pub fixed_120 : reply 120 (meter Fixed 4 None 0 no_fcb 0)
     ≡ says
     (0x68 ∷ 0x13 ∷ 0x13 ∷ 0x68 ∷ 0x08 ∷ 0x05 ∷ 0x73 ∷ 0x78 ∷ 0x56 ∷ 0x34 ∷ 0x12 ∷ 0x01 ∷ 0x00 ∷ 0x05 ∷ 0x6C ∷ 0x19 ∷ 0x60 ∷ 0x05 ∷ 0x00 ∷ 0x78
     ∷ 0x06 ∷ 0x00 ∷ 0x00 ∷ 0x02 ∷ 0x16 ∷ [])
@@ -116,7 +115,7 @@ unfolding hear listens target request hears offered asked readout response user_
 fixed_120 = refl
 
 -- too_many, read twice before
-pub third : reply 59 (meter Water 7 TooMany 2 Clear 2)
+pub third : reply 59 (meter Water 7 TooMany 2 (Some false) 2)
     ≡ says
     (0x68 ∷ 0x04 ∷ 0x04 ∷ 0x68 ∷ 0x08 ∷ 0x05 ∷ 0x70 ∷ 0x09 ∷ 0x86 ∷ 0x16 ∷ [])
 unfolding hear listens target request hears offered asked readout response user_data_value damaged encode sum head fixed_data_value heat_first_value heat_second_value electricity water clock_f little bcd type_g_value type_f_value id_bytes_value digits_of_value whole

@@ -14,8 +14,9 @@ use meter::Meter;
 mod steps; // steps.rt: what each telegram does to a meter that listens
 mod telegrams; // telegrams.rt: which telegram it is, and whether it is for a meter
 
-// No reply, one E5, or the readout of the meter as it is then. The bytes of a readout are made by `readout`.
-#[derive(Clone, Copy)]
+// No reply, one E5, or the readout of the meter as it is then: three kinds, which no Option has. `readout` makes the
+// bytes of a readout.
+#[derive(Clone, Copy, PartialEq, Eq, Debug)]
 pub enum Answer {
     Silent,
     Ack,
@@ -23,15 +24,16 @@ pub enum Answer {
 }
 
 // A meter after a telegram, and its answer.
-#[derive(Clone, Copy)]
+#[derive(Clone, Copy, PartialEq, Eq, Debug)]
 pub struct Heard {
     pub meter: Meter,
     pub answer: Answer,
 }
 
 // What one telegram does to one meter: only a meter at the bus's rate listens.
-pub fn hear(m: Meter, bus: u32, frame: Frame, data: &[u8]) -> Heard
-    ensures { (e : Float) (k : Clock) → heard_of e k result ≡ hear bus (telegram_of frame «data».now) e k (plain_meter m) }
+#[tactic(auto, unfolding(crate::specs::Hear::hear, crate::specs::Hear::listens))]
+pub fn hear(m: Meter, bus: u32, frame: Frame<'_>) -> Heard
+    ensures { (e : Float) (k : Clock) → heard_of e k result ≡ hear bus (telegram_of frame.entry) e k (plain_meter m) }
 {
     if m.state.baud == bus {
         match frame {
@@ -41,6 +43,7 @@ pub fn hear(m: Meter, bus: u32, frame: Frame, data: &[u8]) -> Heard
                 control,
                 address,
                 ci,
+                data,
             } => steps::hear_long(m, control, address, ci, data),
         }
     } else {

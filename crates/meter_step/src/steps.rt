@@ -7,120 +7,116 @@ ghost use Rattle.meter_step.specs.Hear.{E5, quiet, answers, nke, request, select
 ghost use Rattle.meter_step.specs.View.{heard_of};
 
 use super::{Answer, Heard, telegrams};
-use meter::{Meter, changes};
+use meter::Meter;
 use meter_request::asked;
 
 // The meter with no reply.
-pub(crate) fn quiet(m: Meter) -> Heard
-    ensures { (e : Float) (k : Clock) → heard_of e k result ≡ quiet (plain_meter m) }
+pub(crate) fn quiet(meter: Meter) -> Heard
+    ensures { (e : Float) (k : Clock) → heard_of e k result ≡ quiet (plain_meter meter) }
 {
     Heard {
-        meter: m,
+        meter,
         answer: Answer::Silent,
     }
 }
 
 // The meter with one E5.
-fn acknowledged(m: Meter) -> Heard
-    ensures { (e : Float) (k : Clock) → heard_of e k result ≡ answers E5 (plain_meter m) }
+fn acknowledged(meter: Meter) -> Heard
+    ensures { (e : Float) (k : Clock) → heard_of e k result ≡ answers E5 (plain_meter meter) }
 {
     Heard {
-        meter: m,
+        meter,
         answer: Answer::Ack,
     }
 }
 
 // SND_NKE at a target.
+#[tactic(auto, unfolding(crate::specs::Hear::nke))]
 fn nke(m: Meter, address: u8) -> Heard
     ensures { (e : Float) (k : Clock) → heard_of e k result ≡ nke address (plain_meter m) }
 {
-    let n = changes::offered(m);
-    if changes::hears(m) {
-        let k = changes::reset(n);
-        if telegrams::deselects(address) {
-            return acknowledged(changes::with_selected(k, false));
-        }
-        return acknowledged(k);
+    if !m.hears() {
+        quiet(m.offered())
+    } else if telegrams::deselects(address) {
+        acknowledged(m.offered().reset().with_selected(false))
+    } else {
+        acknowledged(m.offered().reset())
     }
-    quiet(n)
 }
 
 // REQ_UD2 at a target.
+#[tactic(auto, unfolding(crate::specs::Hear::request))]
 fn request(m: Meter, fcb: bool) -> Heard
     ensures { (e : Float) (k : Clock) → heard_of e k result ≡ request fcb e k (plain_meter m) }
 {
-    let n = changes::offered(m);
-    if changes::hears(m) {
-        let a = asked(n, fcb);
-        return Heard {
-            meter: a,
+    if m.hears() {
+        Heard {
+            meter: asked(m.offered(), fcb),
             answer: Answer::Readout,
-        };
+        }
+    } else {
+        quiet(m.offered())
     }
-    quiet(n)
 }
 
 // A select: a mask that misses is not put to the meter, so a flaky one does not count it.
+#[tactic(auto, unfolding(crate::specs::Hear::select))]
 fn select(m: Meter, data: &[u8]) -> Heard
     ensures { (e : Float) (k : Clock) → heard_of e k result ≡ select «data».now (plain_meter m) }
 {
-    if meter_select::matches(m, data) {
-        let n = changes::offered(m);
-        if changes::hears(m) {
-            return acknowledged(changes::reset(changes::with_selected(n, true)));
-        }
-        return quiet(changes::with_selected(n, false));
+    if !meter_select::matches(m, data) {
+        quiet(m.with_selected(false))
+    } else if m.hears() {
+        acknowledged(m.offered().with_selected(true).reset())
+    } else {
+        quiet(m.offered().with_selected(false))
     }
-    quiet(changes::with_selected(m, false))
 }
 
 // The other user data at a target: a new primary address, a new rate, a reset. ACK still goes out at the old rate.
+#[tactic(auto, unfolding(crate::specs::Hear::commanded))]
 fn command(m: Meter, ci: u8, data: &[u8]) -> Heard
     ensures { (e : Float) (k : Clock) → heard_of e k result ≡ commanded ci «data».now (plain_meter m) }
 {
-    if telegrams::sets_primary(ci, data) {
-        return acknowledged(changes::with_primary(m, data[2]));
+    if let Some(primary) = telegrams::new_primary(ci, data) {
+        acknowledged(m.with_primary(primary))
+    } else if let Some(rate) = telegrams::new_rate(ci, data) {
+        acknowledged(m.with_baud(rate))
+    } else if ci == frame::CI_APP_RESET {
+        acknowledged(m.reset())
+    } else {
+        quiet(m)
     }
-    if telegrams::sets_baud(ci, data) {
-        return acknowledged(changes::with_baud(m, meter::rate_of(ci - frame::CI_FIRST_BAUD)));
-    }
-    if ci == frame::CI_APP_RESET {
-        return acknowledged(changes::reset(m));
-    }
-    quiet(m)
 }
 
 // ---- telegrams at a meter that listens
 
+#[tactic(auto, unfolding(crate::specs::Hear::listens))]
 pub(crate) fn hear_short(m: Meter, control: u8, address: u8) -> Heard
     ensures { (e : Float) (k : Clock) → heard_of e k result ≡ listens (short control address) e k (plain_meter m) }
 {
-    if telegrams::is_nke(control) {
-        if telegrams::is_target(m, address) {
-            return nke(m, address);
-        }
-        return quiet(m);
+    if !telegrams::is_target(m, address) {
+        quiet(m)
+    } else if telegrams::is_nke(control) {
+        nke(m, address)
+    } else if telegrams::is_req_ud2(control) {
+        request(m, telegrams::fcb_of(control))
+    } else {
+        quiet(m)
     }
-    if telegrams::is_req_ud2(control) {
-        if telegrams::is_target(m, address) {
-            return request(m, telegrams::fcb_of(control));
-        }
-        return quiet(m);
-    }
-    quiet(m)
 }
 
+#[tactic(auto, unfolding(crate::specs::Hear::listens))]
 pub(crate) fn hear_long(m: Meter, control: u8, address: u8, ci: u8, data: &[u8]) -> Heard
     ensures { (e : Float) (k : Clock) → heard_of e k result ≡ listens (long control address ci «data».now) e k (plain_meter m) }
 {
-    if telegrams::is_snd_ud(control) {
-        if telegrams::is_select(ci, address) {
-            return select(m, data);
-        }
-        if telegrams::is_target(m, address) {
-            return command(m, ci, data);
-        }
-        return quiet(m);
+    if !telegrams::is_snd_ud(control) {
+        quiet(m)
+    } else if telegrams::is_select(ci, address) {
+        select(m, data)
+    } else if telegrams::is_target(m, address) {
+        command(m, ci, data)
+    } else {
+        quiet(m)
     }
-    quiet(m)
 }

@@ -1,6 +1,8 @@
 // Which telegram it is, and whether it is for a meter.
-ghost use Rattle.std.specs.Prelude.{◌≡◌, ◌||◌, eqb};
-ghost use Rattle.frame.specs.Protocol.{addr_selected, addr_broadcast_reply, addr_broadcast};
+ghost use Rattle.std.specs.Prelude.{◌≡◌, ◌-◌, ◌||◌, eqb, true, SomeIff, get_or};
+ghost use Rattle.laws.specs.Words.{at};
+ghost use Rattle.meter.specs.Meter.{rates};
+ghost use Rattle.frame.specs.Protocol.{ci_first_baud, addr_selected, addr_broadcast_reply, addr_broadcast};
 ghost use Rattle.meter_step.specs.Hear.{is_nke_value, is_req_ud2_value, fcb_of_value, is_snd_ud_value, is_select_value, sets_primary_value, sets_baud_value, reaches, target};
 ghost use Rattle.meter.specs.View.{plain_meter};
 
@@ -36,31 +38,27 @@ pub(crate) fn is_select(ci: u8, address: u8) -> bool
     ci == frame::CI_SELECT && address == frame::ADDR_SELECTED
 }
 
-// A new primary address: the data are 01 7A and the address.
-pub(crate) fn sets_primary(ci: u8, data: &[u8]) -> bool
-    ensures { result ≡ sets_primary_value ci «data».now }
+// The primary address that a telegram sets: its data are 01 7A and the address.
+pub(crate) fn new_primary(ci: u8, data: &[u8]) -> Option<u8>
+    ensures { SomeIff result (sets_primary_value ci «data».now ≡ true) (at «data».now 2) }
 {
-    if ci == frame::CI_DATA_SEND {
-        if data.len() == 3 {
-            if data[0] == 0x01 {
-                return data[1] == 0x7A;
-            }
-        }
+    match data {
+        [0x01, 0x7A, primary] if ci == frame::CI_DATA_SEND => Some(*primary),
+        _ => None,
     }
-    false
 }
 
-// A new rate: B8 to BF, with no data.
-pub(crate) fn sets_baud(ci: u8, data: &[u8]) -> bool
-    ensures { result ≡ sets_baud_value ci «data».now }
+// The rate that a telegram sets: B8 to BF, with no data.
+#[tactic(auto, unfolding(meter::specs::Meter::rates))]
+pub(crate) fn new_rate(ci: u8, data: &[u8]) -> Option<u32>
+    ensures { SomeIff result (sets_baud_value ci «data».now ≡ true) (get_or rates (ci - ci_first_baud) 0) }
 {
-    if ci < frame::CI_FIRST_BAUD {
-        return false;
+    match ci {
+        frame::CI_FIRST_BAUD..=frame::CI_LAST_BAUD if data.is_empty() => {
+            meter::rate_of(ci - frame::CI_FIRST_BAUD)
+        }
+        _ => None,
     }
-    if frame::CI_LAST_BAUD < ci {
-        return false;
-    }
-    data.len() == 0
 }
 
 // Addresses FE and FF reach every meter.
@@ -75,14 +73,15 @@ fn reaches(address: u8, primary: u8, selected: bool) -> bool
     ensures { result ≡ reaches address primary selected }
 {
     if reaches_all(address) {
-        return true;
+        true
+    } else if address == frame::ADDR_SELECTED {
+        selected
+    } else {
+        primary == address
     }
-    if address == frame::ADDR_SELECTED {
-        return selected;
-    }
-    primary == address
 }
 
+#[tactic(auto, unfolding(crate::specs::Hear::target))]
 pub(crate) fn is_target(m: Meter, address: u8) -> bool
     ensures { result ≡ target address (plain_meter m) }
 {

@@ -1,4 +1,5 @@
-// Numbers as bytes, low byte first: written, as such or in BCD, and read.
+// Numbers as bytes, low byte first: written, as such or in BCD, and read. The crate has no loop and calls no other crate,
+// not even std, so that `.ci/divisors` can see from its source that BCD values are made without dividing.
 #![tactic(auto)]
 
 ghost use Rattle.std.specs.Prelude.{◌+◌, ◌*◌, ◌/◌, ◌%◌, ◌<◌, [], ◌∷◌, ◌≡◌};
@@ -17,17 +18,20 @@ fn byte(v: u64) -> u8
 }
 
 // Two bytes of a number, low byte first.
+#[tactic(auto, unfolding(crate::specs::Values::little))]
 pub fn le2(v: u64) -> [u8; 2]
     ensures { result ≡ little 2 v }
 {
     [byte(v), byte(v / 256)]
 }
 
-// Four bytes of a number, low byte first.
+// Four bytes of a number, low byte first. One function for every width would need a loop or std's `to_le_bytes`.
 pub fn le4(v: u64) -> [u8; 4]
     ensures { result ≡ little 4 v }
 {
-    [byte(v), byte(v / 256), byte(v / 65536), byte(v / 16777216)]
+    let [a, b] = le2(v);
+    let [c, d] = le2(v / 65536);
+    [a, b, c, d]
 }
 
 // Two decimal digits in a byte, the higher one in the upper nibble, where it counts 16 and not 10.
@@ -52,32 +56,30 @@ pub fn bcd4(v: u64) -> [u8; 4]
     ensures { result ≡ bcd 4 v }
 {
     let v4 = above4(v);
-    let low = digits4(v - v4 * 10000);
-    let high = digits4(v4 - above8(v) * 10000);
-    [low[0], low[1], high[0], high[1]]
+    let [b0, b1] = digits4(v - v4 * 10000);
+    let [b2, b3] = digits4(v4 - above8(v) * 10000);
+    [b0, b1, b2, b3]
 }
 
 // The low twelve decimal digits, low byte first.
 pub fn bcd6(v: u64) -> [u8; 6]
     ensures { result ≡ bcd 6 v }
 {
-    let low = bcd4(v);
-    let high = digits4(above8(v) - above12(v) * 10000);
-    [low[0], low[1], low[2], low[3], high[0], high[1]]
+    let [b0, b1, b2, b3] = bcd4(v);
+    let [b4, b5] = digits4(above8(v) - above12(v) * 10000);
+    [b0, b1, b2, b3, b4, b5]
 }
 
-fn wide(b: u8) -> u16
-    ensures { (result ≡ b) × (result < 256) }
-{
-    b as u16
-}
-
+// The number of two bytes, and of four, low byte first: `four` stands on `two`. Their results differ in type, so one
+// generic function would need a trait with two impls that hold these same two lines.
+#[tactic(auto, unfolding(crate::specs::Number::number))]
 pub fn two(a: u8, b: u8) -> u16
     ensures { result ≡ number 2 0 (a ∷ b ∷ []) }
 {
-    wide(a) + 256 * wide(b)
+    a as u16 + 256 * (b as u16)
 }
 
+#[tactic(auto, unfolding(crate::specs::Number::number))]
 pub fn four(a: u8, b: u8, c: u8, d: u8) -> u32
     ensures { result ≡ number 4 0 (a ∷ b ∷ c ∷ d ∷ []) }
 {

@@ -1,8 +1,11 @@
 // A number without its low decimal digits, and without dividing: x / d is x * m / 2^s, where m is 2^s / d, rounded up.
-// That is exact for numbers of as many bits as each function says (proofs/ReciprocalLaws: reciprocal).
+// That is exact for numbers of as many bits as each function says (proofs/ReciprocalLaws: reciprocal). What differs from
+// one to the next is its constants, and one lemma proves them; with the shift as a const parameter the source would
+// divide by what is no number, which `.ci/divisors` refuses.
 ghost use Rattle.std.specs.Prelude.{◌≡◌, ◌*◌, ◌/◌, ◌<◌, ◌≤◌};
 
 // A product of numbers of 32 bits: 64 have room for two such numbers more.
+#[tactic(auto, using(crate::proofs::ProductLaws::product_bound))]
 fn product(a: u64, b: u64) -> u64
     requires { (a < 4294967296) × (b < 4294967296) }
     ensures { (result ≡ a * b) × (result ≤ 18446744065119617025) }

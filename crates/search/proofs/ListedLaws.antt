@@ -1,7 +1,7 @@
 -- A search into records of its own, of which a part is lent, is 01's search into any records of which there is room
 -- for as many.
-use Rattle.std.specs.Prelude.{if◌then◌else◌}
-use mathlib.Core.Path.{◌≡◌, refl, sym, ap, ◌∙◌, subst}
+use Rattle.std.specs.Prelude.{if◌then◌else◌, Ok, Err}
+use mathlib.Core.Path.{◌≡◌, refl, sym, ap, ◌∙◌}
 use mathlib.Core.Bool.{Bool, true, false, not}
 use mathlib.Core.List.{List, ◌++◌, map}
 use Prim.Native.Nat.{ℕ, ◌≤◌, min}
@@ -12,6 +12,7 @@ use lib.Seq.{length-take-le, take-append-le, take-append_seam}
 use borrow.Author.Tests.{lt-ltb, le-ltb, ltb-true, ltb-false}
 use Rattle.time_clock.specs.declared.Clock.{Clock}
 use Rattle.time_clock.specs.Fields.{good_clock_value}
+use Rattle.laws.specs.Refusal.{not_refused}
 use Rattle.list_open.specs.Opening.{most_meters}
 use Rattle.segment.specs.Plain.{Plain}
 use Rattle.segment_image.specs.Image.{decode_image}
@@ -20,9 +21,9 @@ use Rattle.search_walk.specs.Walk.{Entry, Walked, whole_walk}
 use Rattle.search.specs.declared.EntryRecord.{EntryRecord}
 use Rattle.search.specs.declared.Entries.{Entries}
 use Rattle.search.specs.declared.Searched as answers
+use Rattle.search.specs.declared.SearchError.{SearchError}
 use Rattle.search.specs.SearchCall.{record_of_value, Searched, search_refused, search_gave, is_empty, search_call}
-use Rattle.search.specs.View.{outcome_number_value, searched_of, entries_give, SearchesIn, SearchesInto}
-use Rattle.search.specs.ProgramSearch.{listed_of}
+use Rattle.search.specs.View.{searched_of, entries_give, SearchesIn, SearchesInto}
 use Rattle.search.proofs.Allowed.{search_cases}
 
 -- ---- one search into two lists of records
@@ -68,8 +69,7 @@ same_test n room m e h = go (ltb room m) refl
     go true f = lt-ltb n m (let l = ltb-true room m f in omega arith)
     go false f = le-ltb n m (let l = ltb-false room m f in omega arith)
 
-module _ (old : List ℕ) (k : Clock) (allowance room : ℕ) (es zs : List EntryRecord) (n : ℕ) (found : answers.Searched) (new : List ℕ) (le : n ≤ length es) (en : n ≡ min room most_meters) (ez : length zs ≡ n)
-    (f : SearchesInto old k allowance (take n es) found zs new) where
+module _ (old : List ℕ) (k : Clock) (allowance room : ℕ) (es zs : List EntryRecord) (n : ℕ) (new : List ℕ) (le : n ≤ length es) (en : n ≡ min room most_meters) (ez : length zs ≡ n) where
   abbrev s : Plain
   s = decode_image old
 
@@ -79,24 +79,34 @@ module _ (old : List ℕ) (k : Clock) (allowance room : ℕ) (es zs : List Entry
   many : length (take n es) ≡ n
   many = length-take-le n es le
 
-  small : found.count ≤ n
+  -- of the same length for the search
+  over_lent : (lent : List EntryRecord) → length lent ≡ room → over lent (search_call k allowance (take n es) s) ≡ search_call k allowance lent s
+  over_lent lent l = over_search k allowance (take n es) s lent (ap (λ (j : ℕ). ltb j m) many ∙ same_test n room m en (meters_few old) ∙ ap (λ (j : ℕ). ltb j m) (sym l))
+
+  pub listed_refused : (e : SearchError) → SearchesInto old k allowance (take n es) (Err e) zs new → SearchesIn old k allowance room (Err e) new
   unfolding searched_of
-  small =
-      let c = search_within k allowance (take n es) s (ap (λ (x : Searched). length x.lent) (sym f.gives) ∙ ez ∙ sym many) in
-      omega (arith, ap (λ (x : Searched). x.count) f.gives, c, many)
+  listed_refused e f = record { gives = λ lent l. ap (over lent) f.gives ∙ over_lent lent l; fits = tt; enough = tt; exact = f.exact; kept = f.kept }
 
-  -- the entries are all in the part that was lent
-  in_front_lem : take found.count (zs ++ drop n es) ≡ take found.count zs
-  in_front_lem = take-append-le found.count zs (drop n es) (omega (arith, small, ez))
+  module _ (found : answers.Searched) (f : SearchesInto old k allowance (take n es) (Ok found) zs new) where
+    small : found.count ≤ n
+    unfolding searched_of
+    small =
+        let c = search_within k allowance (take n es) s (ap (λ (x : Searched). length x.lent) (sym f.gives) ∙ ez ∙ sym many) in
+        omega (arith, ap (λ (x : Searched). x.count) f.gives, c, many)
 
-  gave : (lent : List EntryRecord) → length lent ≡ room → entries_give (listed_of found (zs ++ drop n es)) (decode_image new) lent ≡ search_call k allowance lent s
-  unfolding searched_of
-  gave lent l =
-      (λ j. record { number = outcome_number_value found.outcome; count = found.count; probes = found.probes; spent = found.spent; lent = in_front_lem j ++ drop found.count lent; segment = decode_image new })
-      ∙ ap (over lent) f.gives
-      ∙ over_search k allowance (take n es) s lent (ap (λ (j : ℕ). ltb j m) many ∙ same_test n room m en (meters_few old) ∙ ap (λ (j : ℕ). ltb j m) (sym l))
+    -- the entries are all in the part that was lent
+    in_front_lem : take found.count (zs ++ drop n es) ≡ take found.count zs
+    in_front_lem = take-append-le found.count zs (drop n es) (omega (arith, small, ez))
 
-  pub listed_searches : (r : Entries) → r ≡ listed_of found (zs ++ drop n es) → SearchesIn old k allowance room r new
-  listed_searches r er =
-      subst (λ (x : Entries). SearchesIn old k allowance room x new) (sym er)
-      (record { gives = gave; fits = omega (arith, small, en); enough = omega (arith, small, en); exact = f.exact; kept = f.kept })
+    abbrev listed : Entries
+    listed = record { entries = zs ++ drop n es; count = found.count; probes = found.probes; spent = found.spent }
+
+    gave : (lent : List EntryRecord) → length lent ≡ room → entries_give (Ok listed) (decode_image new) lent ≡ search_call k allowance lent s
+    unfolding searched_of
+    gave lent l =
+        (λ j. record { number = not_refused; count = found.count; probes = found.probes; spent = found.spent; lent = in_front_lem j ++ drop found.count lent; segment = decode_image new })
+        ∙ ap (over lent) f.gives
+        ∙ over_lent lent l
+
+    pub listed_searches : SearchesIn old k allowance room (Ok listed) new
+    listed_searches = record { gives = gave; fits = omega (arith, small, en); enough = omega (arith, small, en); exact = f.exact; kept = tt }

@@ -1,10 +1,12 @@
 -- A search in an image that was made: it went 01's walk.
-use mathlib.Core.Path.{◌≡◌, refl, sym, ap, ap₂, ◌∙◌, subst}
+use Rattle.std.specs.Prelude.{Ok}
+use mathlib.Core.Path.{◌≡◌, sym, ap, ap₂, ◌∙◌, subst}
 use mathlib.Core.Bool.{true}
 use mathlib.Core.List.{List, [], ◌++◌, map}
 use Prim.Native.Nat.{ℕ, ◌≤◌, min}
 use native.Mathlib.Omega.{arith}
 use lib.ListN.{length, take, drop, length-take, length-map}
+use Rattle.laws.specs.Refusal.{not_refused}
 use Rattle.laws.specs.Words.{Every}
 use Rattle.laws.proofs.Copying.{take_min}
 use Rattle.laws.proofs.Lists.{every_map}
@@ -24,11 +26,10 @@ use Rattle.search_walk.proofs.Fits.{Idle, walk-fits-meters}
 use Rattle.search_packed.specs.declared.Found.{Found}
 use Rattle.search_packed.specs.ProgramPacked.{PackedRun, packed_whole, found_of, Goes}
 use Rattle.search.specs.declared.EntryRecord.{EntryRecord}
-use Rattle.search.specs.declared.SearchOutcome.TheVariants.{Made}
 use Rattle.search.specs.declared.Entries.{Entries}
 use Rattle.search.specs.SearchCall.{record_of_value, search_gave}
 use Rattle.search.specs.ProgramPacking.{key_of_value, mark_of_value, packed, Bounded, unmarked, record_in}
-use Rattle.search.specs.View.{outcome_number_value, entries_give}
+use Rattle.search.specs.View.{entries_give}
 use Rattle.search.specs.ProgramSearch.{packed_walk_of, Walks}
 use Rattle.search.proofs.KeyDigits.{digits_eight}
 use Rattle.search.proofs.PackStart.{packed_hold, packed_seen, swept_seen}
@@ -41,13 +42,12 @@ module _ (old new : List ℕ) (allowance : ℕ) (f : Found) (ks ss : List ℕ) (
   pub walks : ks ≡ packed key_of_value (decode_image old).meters → ss ≡ packed (mark_of_value (decode_image old).baud) (decode_image old).meters → Every Bounded (decode_image old).meters → Goes ks ss allowance f
       → Becomes old (unmarked f.marks (decode_image old)) new
       → take (min f.found capacity) rs ≡ map record_in (take (min f.found capacity) f.entries) → n ≡ min f.found capacity
-      → Walks old allowance (record { outcome = Made; entries = rs; count = n; probes = f.probes; spent = f.spent }) new
+      → Walks old allowance (record { entries = rs; count = n; probes = f.probes; spent = f.spent }) new
   unfolding found_of packed_walk_of
   walks k m b g u r c =
       let e : found_of f ≡ packed_walk_of (decode_image old) allowance = g.run ∙ ap₂ (λ x y. packed_whole x y allowance) k m in
       let all : take (min f.found capacity) f.entries ≡ take f.found f.entries = ap (λ l. take (min f.found l) f.entries) (sym g.entries) ∙ take_min f.found f.entries in
       record {
-        outcome = refl;
         entries = ap (λ j. take j rs) c ∙ r ∙ ap (map record_in) (all ∙ ap (λ (t : PackedRun). t.entries) e);
         count = c ∙ ap (λ l. min f.found l) (sym g.entries) ∙ sym (length-take f.found f.entries) ∙ ap (λ (t : PackedRun). length t.entries) e;
         probes = ap (λ (t : PackedRun). t.probes) e;
@@ -108,9 +108,9 @@ module _ (old : List ℕ) (k : Clock) (allowance : ℕ) (r : Entries) (new : Lis
   segment_is : decode_image new ≡ v.segment
   segment_is = x.image.means ∙ at_rest _ _ (swept_seen s.baud t.marks s.meters (omega (arith, few, x.marks))) ∙ same.3
 
-  pub made : (lent : List EntryRecord) → entries_give r (decode_image new) lent ≡ search_gave lent v
+  pub made : (lent : List EntryRecord) → entries_give (Ok r) (decode_image new) lent ≡ search_gave lent v
   made lent = λ j. record {
-    number = outcome_number_value (x.outcome j);
+    number = not_refused;
     count = count_is j;
     probes = (x.probes ∙ same.1) j;
     spent = (x.spent ∙ same.2) j;

@@ -1,7 +1,7 @@
 -- Packing and unpacking: the loops, and the small choices.
 use mathlib.Core.Path.{◌≡◌, refl, sym, ap, ap₂, ◌∙◌, subst}
 use mathlib.Core.List.{List, [], ◌∷◌, ◌++◌, map}
-use Prim.Native.Nat.{ℕ, zero, suc, ◌+◌, ◌*◌, ◌/◌, ◌%◌, ◌≤◌, ◌<◌}
+use Prim.Native.Nat.{ℕ, zero, suc, ◌+◌, ◌*◌, ◌/◌, ◌%◌, ◌≤◌, ◌<◌, max}
 use native.Mathlib.Nat.{le_of_suc-le-suc, not-suc-le-zero}
 use native.Mathlib.Numerals.{add-one}
 use native.Mathlib.Omega.{arith}
@@ -16,7 +16,7 @@ use Rattle.meter.specs.PlainMeter.{PlainMeter}
 use Rattle.meter.specs.Meter.{with}
 use Rattle.meter.specs.View.{plain_meter}
 use Rattle.meter.specs.declared.Meter.{Meter}
-use Rattle.meter.specs.declared.LastFcb.{LastFcb}
+use Rattle.std.specs.Prelude.{Option, Bool}
 use Rattle.list_open.specs.Opening.{capacity}
 use Rattle.segment.specs.Plain.{Plain, with_meters}
 use Rattle.segment_image.specs.Image.{decode_image}
@@ -30,9 +30,9 @@ use Rattle.search.proofs.KeyDigits.{id_key}
 
 -- ---- a front number
 
-pub counted : (n : ℕ) → (n ≡ 0 → ⊥) → n ≡ count_in n
-counted zero h = absurd (h refl)
-counted (suc n) h = refl
+pub counted : (n : ℕ) → max n 1 ≡ count_in n
+counted zero = refl
+counted (suc n) = omega arith
 
 pub several : (n : ℕ) → (n ≡ 0 → ⊥) → (n ≡ 1 → ⊥) → Many ≡ kind_in n
 several zero h k = absurd (h refl)
@@ -128,10 +128,10 @@ module _ {marks old : List ℕ} where
 -- ---- the mark with which a search begins
 
 module _ (bus : ℕ) (m : PlainMeter) where
-  pub mark_here : m.baud ≡ bus → (a b c : ℕ) → a ≡ bit_if m.selected → b ≡ bit_if m.hears_next → c ≡ fault_bits_value m.fault
-      → a + b * 4 + c + m.readouts * 256 + m.access * 65536 ≡ mark_of_value bus m
+  pub mark_here : m.baud ≡ bus → (a b c r n : ℕ) → a ≡ bit_if m.selected → b ≡ bit_if m.hears_next → c ≡ fault_bits_value m.fault → r ≡ m.readouts → n ≡ m.access
+      → a + b * 4 + c + r * 256 + n * 65536 ≡ mark_of_value bus m
   unfolding mark_of_value
-  mark_here h a b c ea eb ec = rw (eq-eqb m.baud bus h, ea, eb, ec)
+  mark_here h a b c r n ea eb ec er en = rw (eq-eqb m.baud bus h, ea, eb, ec, er, en)
 
   pub mark_away : (m.baud ≡ bus → ⊥) → 0 ≡ mark_of_value bus m
   unfolding mark_of_value
@@ -139,7 +139,7 @@ module _ (bus : ℕ) (m : PlainMeter) where
 
 -- ---- a meter back from its mark
 
-pub unmark_here : (bus s : ℕ) (m : Meter) (l : LastFcb) (p : ℕ) → m.state.baud ≡ bus → l ≡ last_in_value (on (s / 8 % 2)) (on (s / 2 % 2)) m.state.last → p ≡ part_in_value (on (s / 8 % 2)) (on (s / 2 % 2)) m.state.part
+pub unmark_here : (bus s : ℕ) (m : Meter) (l : Option Bool) (p : ℕ) → m.state.baud ≡ bus → l ≡ last_in_value (on (s / 8 % 2)) (on (s / 2 % 2)) m.state.last → p ≡ part_in_value (on (s / 8 % 2)) (on (s / 2 % 2)) m.state.part
     → with (plain_meter m) (m.state.primary, m.state.baud) (on (s % 2)) (p, l) (s / 65536 % 256, s / 256 % 256) (on (s / 4 % 2)) ≡ seen_as bus (plain_meter m) s
 unfolding seen_as as_marked
 unmark_here bus s m l p h el ep = rw (eq-eqb m.state.baud bus h, el, ep)

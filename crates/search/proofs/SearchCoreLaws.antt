@@ -1,12 +1,13 @@
 -- A search in an image is 01's search: its tests, the refusals, and the search that was made.
+use Rattle.std.specs.Prelude.{Ok, Err}
 use mathlib.Core.Path.{◌≡◌, refl, sym, ap, ◌∙◌}
 use mathlib.Core.Bool.{Bool, true, false, ◌&&◌, not}
-use mathlib.Core.List.{List, [], ◌∷◌, ◌++◌}
+use mathlib.Core.List.{List, [], ◌∷◌}
 use Prim.Native.Nat.{ℕ, suc, ◌≤◌, ◌<◌}
 use native.Mathlib.Omega.{arith}
 use lib.Dec.{eqb}
 use borrow.Author.Tests.{eq-eqb, ne_eqb, lt-ltb, le-ltb, eqb-true, not-true, not-false}
-use lib.ListN.{length, take, drop}
+use lib.ListN.{length}
 use Rattle.laws.proofs.Lists.{and_l, and_r}
 use Rattle.time_clock.specs.declared.Clock.{Clock}
 use Rattle.segment.specs.Plain.{Plain}
@@ -14,12 +15,12 @@ use Rattle.time_clock.specs.Fields.{good_clock_value}
 use Rattle.segment_image.specs.Image.{decode_image, encode_image}
 use Rattle.segment_places.proofs.PlaceLaws.{meters_few}
 use Rattle.search.specs.declared.EntryRecord.{EntryRecord}
-use Rattle.search.specs.declared.SearchOutcome.{SearchOutcome}
-use Rattle.search.specs.declared.SearchOutcome.TheVariants.{ClockOutOfRange, NotEmpty, TooFewLent}
+use Rattle.search.specs.declared.SearchError.{SearchError}
+use Rattle.search.specs.declared.SearchError.TheVariants.{ClockOutOfRange, NotEmpty, TooFewLent}
 use Rattle.search.specs.declared.Entries.{Entries}
 use Rattle.search.specs.SearchCall.{search_refused, search_call, is_empty}
-use Rattle.search.specs.View.{outcome_number_value, entries_give, SearchesIn}
-use Rattle.search.specs.ProgramSearch.{Refuses, Walks}
+use Rattle.search.specs.View.{error_number, SearchesIn}
+use Rattle.search.specs.ProgramSearch.{Walks}
 use Rattle.search.proofs.MadeLaws.{fitting, count_is, made}
 
 -- ---- the tests
@@ -37,38 +38,26 @@ none_there (x ∷ xs) h = absurd (let z = eqb-true (suc (length xs)) 0 h in omeg
 
 -- ---- the search call
 
-gives_refused : (s : Plain) (o : SearchOutcome) (r : Entries) → Refuses o r → (lent : List EntryRecord) → entries_give r s lent ≡ search_refused (outcome_number_value o) lent s
-gives_refused s o r x lent = λ j. record {
-  number = outcome_number_value (x.outcome j);
-  count = x.count j;
-  probes = x.probes j;
-  spent = x.spent j;
-  lent = take (x.count j) r.entries ++ drop (x.count j) lent;
-  segment = s;
-}
-
 module _ (old : List ℕ) (k : Clock) (allowance room : ℕ) where
   abbrev s : Plain
   s = decode_image old
 
   -- a refused search writes nothing
-  refusing : (o : SearchOutcome) (r : Entries) → Refuses o r → ((lent : List EntryRecord) → length lent ≡ room → search_refused (outcome_number_value o) lent s ≡ search_call k allowance lent s)
-      → SearchesIn old k allowance room r old
-  refusing o r x h =
-      record { gives = λ lent l. gives_refused s o r x lent ∙ h lent l; fits = omega (arith, x.count); enough = omega (arith, x.count); exact = λ e. e; kept = λ _. refl }
+  refusing : (e : SearchError) → ((lent : List EntryRecord) → length lent ≡ room → search_refused (error_number e) lent s ≡ search_call k allowance lent s) → SearchesIn old k allowance room (Err e) old
+  refusing e h = record { gives = h; fits = tt; enough = tt; exact = λ x. x; kept = refl }
 
   module _ {g : Bool} (eg : g ≡ good_clock_value k) where
-    pub refused_clock_lem : (r : Entries) → not g ≡ true → Refuses ClockOutOfRange r → SearchesIn old k allowance room r old
+    pub refused_clock_lem : not g ≡ true → SearchesIn old k allowance room (Err ClockOutOfRange) old
     unfolding search_call
-    refused_clock_lem r h x = refusing ClockOutOfRange r x (λ lent l. rw (sym eg, not-true g h))
+    refused_clock_lem h = refusing ClockOutOfRange (λ lent l. rw (sym eg, not-true g h))
 
     module _ (good : not g ≡ false) {e : Bool} (ee : e ≡ is_empty s) where
       clock_good : good_clock_value k ≡ true
       clock_good = sym eg ∙ not-false g good
 
-      pub refused_waiting : (r : Entries) → not e ≡ true → Refuses NotEmpty r → SearchesIn old k allowance room r old
+      pub refused_waiting : not e ≡ true → SearchesIn old k allowance room (Err NotEmpty) old
       unfolding search_call
-      refused_waiting r h x = refusing NotEmpty r x (λ lent l. rw (clock_good, sym ee, not-true e h))
+      refused_waiting h = refusing NotEmpty (λ lent l. rw (clock_good, sym ee, not-true e h))
 
       module _ (rest : not e ≡ false) {n : ℕ} (en : n ≡ length s.meters) where
         empty : is_empty s ≡ true
@@ -80,12 +69,12 @@ module _ (old : List ℕ) (k : Clock) (allowance room : ℕ) where
         no_queue : s.queue ≡ []
         no_queue = none_there s.queue (and_r (eqb (length s.input) 0) (eqb (length s.queue) 0) empty)
 
-        pub refused_few : (r : Entries) → room < n → Refuses TooFewLent r → SearchesIn old k allowance room r old
+        pub refused_few : room < n → SearchesIn old k allowance room (Err TooFewLent) old
         unfolding search_call
-        refused_few r h x =
-            refusing TooFewLent r x (λ lent l. rw (clock_good, sym ee, not-false e rest, lt-ltb (length lent) (length s.meters) (omega arith)))
+        refused_few h =
+            refusing TooFewLent (λ lent l. rw (clock_good, sym ee, not-false e rest, lt-ltb (length lent) (length s.meters) (omega arith)))
 
-        pub made_search : (r : Entries) (new : List ℕ) → n ≤ room → Walks old allowance r new → SearchesIn old k allowance room r new
+        pub made_search : (r : Entries) (new : List ℕ) → n ≤ room → Walks old allowance r new → SearchesIn old k allowance room (Ok r) new
         unfolding search_call
         made_search r new h x =
             let c = count_is old k allowance r new clock_good no_input no_queue x in
@@ -98,5 +87,5 @@ module _ (old : List ℕ) (k : Clock) (allowance room : ℕ) where
               fits = omega arith;
               enough = omega arith;
               exact = λ z. x.image.exact z ∙ ap encode_image (sym x.image.means);
-              kept = λ z. absurd (omega (arith, z, ap outcome_number_value x.outcome));
+              kept = tt;
             }

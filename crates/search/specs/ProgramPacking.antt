@@ -1,15 +1,13 @@
 -- How the program's search packs the meters, and what a meter and an entry are that are packed. The words are the
 -- program's:
 -- that the packed search finds what 01's finds is proved (proofs/PackedWalk).
-use Rattle.std.specs.Prelude.{◌≡◌, Bool, true, false, List, ◌++◌, map, ℕ, zero, suc, ◌+◌, ◌*◌, ◌/◌, ◌%◌, ◌<◌, eqb, length, drop, replicate, if◌then◌else◌}
+use Rattle.std.specs.Prelude.{◌≡◌, Option, Some, None as no_fcb, Bool, true, false, List, ◌++◌, map, ℕ, zero, suc, ◌+◌, ◌*◌, ◌/◌, ◌%◌, ◌<◌, eqb, length, drop, replicate, if◌then◌else◌}
 use Rattle.laws.specs.Words.{bit_if}
 use Rattle.meter_identity.specs.Identity.{in_base, digits_of_value}
 use Rattle.meter.specs.PlainMeter.{PlainMeter}
 use Rattle.meter.specs.Meter.{with, reached}
 use Rattle.meter.specs.declared.Fault.{Fault}
 use Rattle.meter.specs.declared.Fault.TheVariants.{None, Checksum, Truncated, Busy, WrongAddress, Flaky, TooMany}
-use Rattle.meter.specs.declared.LastFcb.{LastFcb}
-use Rattle.meter.specs.declared.LastFcb.TheVariants.{Never, Clear}
 use Rattle.list_open.specs.Opening.{capacity}
 use Rattle.segment.specs.Plain.{Plain, with_meters}
 use Rattle.search_packed.specs.ProgramBits.{FRESH, HEARS, CLEAR, STEADY, FLAKY, FAILS, TOO_MANY, READOUTS, ACCESS}
@@ -63,9 +61,9 @@ part_in_value true fresh p = 0
 part_in_value false true p = 0
 part_in_value false false p = p
 
-abbrev pub last_in_value : Bool → Bool → LastFcb → LastFcb
-last_in_value true fresh l = Clear
-last_in_value false true l = Never
+abbrev pub last_in_value : Bool → Bool → Option Bool → Option Bool
+last_in_value true fresh l = Some false
+last_in_value false true l = no_fcb
 last_in_value false false l = l
 
 -- selected, reset, hears next, last FCB clear, access number, readouts

@@ -1,25 +1,13 @@
 -- The program's own steps in a search: no part of what is promised of it.
-use Rattle.std.specs.Prelude.{◌≡◌, false, List, map, ℕ, length, take, get_or}
+use Rattle.std.specs.Prelude.{◌≡◌, List, map, ℕ, length, take}
 use Rattle.laws.specs.Words.{Every}
 use Rattle.list_open.specs.Opening.{capacity}
 use Rattle.segment.specs.Plain.{Plain}
 use Rattle.segment_image.specs.Image.{decode_image}
 use Rattle.segment_places.specs.ProgramBecomes.{Becomes}
 use Rattle.search_packed.specs.ProgramPacked.{PackedRun, packed_whole}
-use Rattle.search.specs.declared.EntryRecord.{EntryRecord}
-use Rattle.search.specs.declared.SearchOutcome.{SearchOutcome}
-use Rattle.search.specs.declared.SearchOutcome.TheVariants.{Made}
 use Rattle.search.specs.declared.Entries.{Entries}
-use Rattle.search.specs.declared.Searched.{Searched}
 use Rattle.search.specs.ProgramPacking.{key_of_value, mark_of_value, packed, Bounded, unmarked, record_in}
-use Rattle.search.specs.View.{no_entry}
-
--- a refused search: nothing found
-pub record Refuses (o : SearchOutcome) (r : Entries) : Type 0 where
-  pub outcome : r.outcome ≡ o
-  pub count : r.count ≡ 0
-  pub probes : r.probes ≡ 0
-  pub spent : r.spent ≡ false
 
 -- the walk over the packed meters, from the mask with no digit
 unfoldable pub packed_walk_of : Plain → ℕ → PackedRun
@@ -27,7 +15,6 @@ packed_walk_of s allowance = packed_whole (packed key_of_value s.meters) (packed
 
 -- a search that was made: what that walk found, and the meters put back; beside it what the types say of the meters
 pub record Walks (old : List ℕ) (allowance : ℕ) (r : Entries) (new : List ℕ) : Type 0 where
-  pub outcome : r.outcome ≡ Made
   pub entries : take r.count r.entries ≡ map record_in (packed_walk_of (decode_image old) allowance).entries
   pub count : r.count ≡ length (packed_walk_of (decode_image old) allowance).entries
   pub probes : r.probes ≡ (packed_walk_of (decode_image old) allowance).probes
@@ -35,14 +22,3 @@ pub record Walks (old : List ℕ) (allowance : ℕ) (r : Entries) (new : List �
   pub image : Becomes old (unmarked (packed_walk_of (decode_image old) allowance).marks (decode_image old)) new
   pub marks : length (packed_walk_of (decode_image old) allowance).marks ≡ capacity
   pub bounded : Every Bounded (decode_image old).meters
-
--- the entry at a place
-abbrev pub record_at_value : List EntryRecord → ℕ → EntryRecord
-record_at_value es i = get_or es i no_entry
-
--- what a search answers beside its entries, and the two together again
-abbrev pub answer_of : Entries → Searched
-answer_of c = record { outcome = c.outcome; count = c.count; probes = c.probes; spent = c.spent }
-
-abbrev pub listed_of : Searched → List EntryRecord → Entries
-listed_of r es = record { outcome = r.outcome; entries = es; count = r.count; probes = r.probes; spent = r.spent }

@@ -1,5 +1,5 @@
 // From the meters of an image to their keys and marks and back, and from an entry's number to its record.
-ghost use Rattle.std.specs.Prelude.{◌≡◌, map, ◌+◌, ◌≤◌, min, take, replicate};
+ghost use Rattle.std.specs.Prelude.{◌≡◌, map, ◌+◌, ◌≤◌, min, take};
 ghost use Rattle.laws.specs.Words.{Every};
 ghost use Rattle.meter_identity.specs.Identity.{digits_of_value};
 ghost use Rattle.meter.specs.View.{plain_meter};
@@ -10,19 +10,12 @@ ghost use Rattle.search_packed.specs.ProgramBits.{STEADY, TOO_MANY};
 ghost use Rattle.search.specs.ProgramPacking.{fault_bits_value, key_of_value, mark_of_value, Bounded, packed, last_in_value, part_in_value, seen_as, unmarked, kind_in, count_in, record_in};
 
 use crate::{EntryRecord, Kind};
-use laws::{bit, least};
-use meter::{Fault, LastFcb, Meter, State};
+use meter::{Fault, Meter, State};
 use search_packed::bits::{ACCESS, CLEAR, FAILS, FLAKY, FRESH, HEARS, READOUTS, STEADY, TOO_MANY};
 use segment::METERS;
 use segment_image::IMAGE;
 use segment_places::head;
 use segment_places::meters::{meter_at, put_meter};
-
-fn zeros() -> [u32; METERS]
-    ensures { result ≡ replicate capacity 0 }
-{
-    [0u32; METERS]
-}
 
 // The bits of a mark that say what kind of meter it is.
 fn fault_bits(fault: Fault) -> u32
@@ -39,77 +32,59 @@ fn fault_bits(fault: Fault) -> u32
     }
 }
 
-fn key_of(m: Meter) -> u32
-    ensures { result ≡ key_of_value (plain_meter m) }
-{
-    m.built.id
-}
-
 // The mark with which a search begins.
 fn mark_of(m: Meter, bus: u32) -> u32
     ensures { (result ≡ mark_of_value bus (plain_meter m)) × Bounded (plain_meter m) }
 {
-    if m.state.baud == bus {
-        let built = m.built;
-        let fault = built.fault;
-        let low = bit(m.state.selected) + bit(m.state.hearing) * HEARS;
-        return low
-            + fault_bits(fault)
-            + m.state.readouts as u32 * READOUTS
-            + m.state.access as u32 * ACCESS;
+    if m.state.baud != bus {
+        return 0;
     }
-    0
+    let low = u32::from(m.state.selected) + u32::from(m.state.hearing) * HEARS;
+    low + fault_bits(m.built.fault)
+        + u32::from(m.state.readouts) * READOUTS
+        + u32::from(m.state.access) * ACCESS
 }
 
-pub(crate) fn keys_of(image: &[u8; IMAGE]) -> [u32; METERS]
-    ensures { result ≡ packed key_of_value (decode_image image.now).meters }
-{
-    let mut keys = zeros();
-    let end = head::count_of(image);
-    let mut i: usize = 0;
-    while i < end {
-        let m = meter_at(image, i);
-        let k = key_of(m);
-        keys[i] = k;
-        i += 1;
-    }
-    keys
+// Meters packed: at each place a meter's key and its mark. They are two arrays, so that a walk's sweeps are
+// vectorised.
+#[derive(Clone, Copy)]
+pub(crate) struct Packed {
+    pub(crate) keys: [u32; METERS],
+    pub(crate) marks: [u32; METERS],
 }
 
-pub(crate) fn marks_of(image: &[u8; IMAGE]) -> [u32; METERS]
-    ensures { (result ≡ packed (mark_of_value (decode_image image.now).baud) (decode_image image.now).meters) × Every Bounded (decode_image image.now).meters }
+// The meters of an image, packed.
+pub(crate) fn packed_of(image: &[u8; IMAGE]) -> Packed
+    ensures keys { result.keys ≡ packed key_of_value (decode_image image.now).meters }
+    ensures marks { result.marks ≡ packed (mark_of_value (decode_image image.now).baud) (decode_image image.now).meters }
+    ensures bounded { Every Bounded (decode_image image.now).meters }
 {
-    let mut marks = zeros();
-    let end = head::count_of(image);
+    let mut keys = [0u32; METERS];
+    let mut marks = [0u32; METERS];
     let bus = head::baud_of(image);
-    let mut i: usize = 0;
-    while i < end {
+    for i in 0..head::count_of(image) {
         let m = meter_at(image, i);
-        let s = mark_of(m, bus);
-        marks[i] = s;
-        i += 1;
+        keys[i] = m.built.id;
+        marks[i] = mark_of(m, bus);
     }
-    marks
+    Packed { keys, marks }
 }
 
 // The part and the last FCB that a mark leaves: clear, the last FCB is clear; fresh, a select reset them.
 fn part_in(clear: bool, fresh: bool, part: u8) -> u8
     ensures { result ≡ part_in_value clear fresh part }
 {
-    if clear {
-        return 0;
-    }
-    if fresh { 0 } else { part }
+    if clear || fresh { 0 } else { part }
 }
 
-fn last_in(clear: bool, fresh: bool, last: LastFcb) -> LastFcb
+fn last_in(clear: bool, fresh: bool, last: Option<bool>) -> Option<bool>
     ensures { result ≡ last_in_value clear fresh last }
 {
     if clear {
-        return LastFcb::Clear;
+        return Some(false);
     }
     if fresh {
-        return LastFcb::Never;
+        return None;
     }
     last
 }
@@ -118,44 +93,36 @@ fn last_in(clear: bool, fresh: bool, last: LastFcb) -> LastFcb
 fn unmark(m: Meter, bus: u32, mark: u32) -> Meter
     ensures { plain_meter result ≡ seen_as bus (plain_meter m) mark }
 {
-    if m.state.baud == bus {
-        let fresh = mark / FRESH % 2 == 1;
-        let clear = mark / CLEAR % 2 == 1;
-        let built = m.built;
-        let before = m.state;
-        let fcb = before.last;
-        let last = last_in(clear, fresh, fcb);
-        let part = part_in(clear, fresh, before.part);
-        let state = State {
-            primary: before.primary,
-            access: (mark / ACCESS % 256) as u8,
-            selected: mark % 2 == 1,
-            part,
-            last,
-            readouts: (mark / READOUTS % 256) as u8,
-            hearing: mark / HEARS % 2 == 1,
-            baud: before.baud,
-        };
-        return Meter { built, state };
+    if m.state.baud != bus {
+        return m;
     }
-    m
+    let fresh = mark / FRESH % 2 == 1;
+    let clear = mark / CLEAR % 2 == 1;
+    let state = State {
+        access: (mark / ACCESS % 256) as u8,
+        selected: mark % 2 == 1,
+        part: part_in(clear, fresh, m.state.part),
+        last: last_in(clear, fresh, m.state.last),
+        readouts: (mark / READOUTS % 256) as u8,
+        hearing: mark / HEARS % 2 == 1,
+        ..m.state
+    };
+    Meter { state, ..m }
 }
 
 // Each meter as its mark has it, over the bytes that it had.
 pub(crate) fn unmark_all(image: &mut [u8; IMAGE], marks: [u32; METERS])
     ensures { Becomes image.old (unmarked marks (decode_image image.old)) image.new }
 {
-    let end = head::count_of(image);
     let bus = head::baud_of(image);
-    let mut i: usize = 0;
-    while i < end {
+    for i in 0..head::count_of(image) {
         let m = meter_at(image, i);
         let k = unmark(m, bus, marks[i]);
         put_meter(image, i, k);
-        i += 1;
     }
 }
 
+// A line a digit, as in the definition: by `array::from_fn` each is a shift by a computed number, to be proved equal.
 fn digits_of(id: u32) -> [u8; 8]
     ensures { result ≡ digits_of_value id }
 {
@@ -171,59 +138,49 @@ fn digits_of(id: u32) -> [u8; 8]
     ]
 }
 
+// In the walk an entry is no enum: the sweep of a reading carries it as a number from mark to mark; it is read here.
 fn kind_of(front: u32) -> Kind
     ensures { result ≡ kind_in front }
 {
-    if front == 0 {
-        return Kind::Mute;
+    match front {
+        0 => Kind::Mute,
+        1 => Kind::One,
+        _ => Kind::Many,
     }
-    if front == 1 {
-        return Kind::One;
-    }
-    Kind::Many
 }
 
 fn count_of(front: u32) -> u32
     ensures { result ≡ count_in front }
 {
-    if front == 0 { 1 } else { front }
+    front.max(1)
 }
 
 fn record_of(e: u64) -> EntryRecord
     ensures { result ≡ record_in e }
 {
     let front = (e / 0x100000000) as u32;
-    let kind = kind_of(front);
-    let digits = digits_of((e % 0x100000000) as u32);
-    let count = count_of(front);
     EntryRecord {
-        kind,
-        digits,
-        count,
+        kind: kind_of(front),
+        digits: digits_of((e % 0x100000000) as u32),
+        count: count_of(front),
     }
 }
 
 pub(crate) fn blank_records() -> [EntryRecord; METERS] {
-    let kind = Kind::Mute;
-    let digits = [0u8; 8];
-    let e = EntryRecord {
-        kind,
-        digits,
+    let blank = EntryRecord {
+        kind: Kind::Mute,
+        digits: [0; 8],
         count: 0,
     };
-    [e; METERS]
+    [blank; METERS]
 }
 
 pub(crate) fn records_of(entries: [u64; METERS], found: usize) -> [EntryRecord; METERS]
     ensures { take (min found capacity) result ≡ map record_in (take (min found capacity) entries) }
 {
     let mut records = blank_records();
-    let end = least(found, METERS);
-    let mut i: usize = 0;
-    while i < end {
-        let e = record_of(entries[i]);
-        records[i] = e;
-        i += 1;
+    for i in 0..found.min(METERS) {
+        records[i] = record_of(entries[i]);
     }
     records
 }

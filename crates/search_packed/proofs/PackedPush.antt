@@ -1,13 +1,14 @@
--- An entry into the lent array.
-use Rattle.std.proofs.Common.{◌≡◌, ℕ, ◌+◌, ◌<◌, ◌≤◌, List, length, take, set, add-one, arith, length-take, take-suc-set, le-ltb, lt-ltb}
+-- An entry into a walk's array.
+use Rattle.std.proofs.Common.{◌≡◌, ℕ, ◌+◌, ◌<◌, ◌≤◌, Bool, List, length, take, set, add-one, arith, length-take, take-suc-set, le-ltb, lt-ltb}
 use Rattle.list_open.specs.Opening.{capacity}
-use Rattle.search_packed.specs.ProgramPacked.{packed_push}
+use Rattle.search_packed.specs.ProgramPacked.{walking, goes_to, packed_note, packed_push}
 
-module _ (es : List ℕ) (n e : ℕ) (room : length es ≡ capacity) where
-  pub push_room : n < capacity → take (n + 1) (set es n e) ≡ packed_push e (take n es)
-  unfolding packed_push
-  push_room h = rw (lt-ltb (length (take n es)) capacity (omega (arith, length-take n es)), add-one) (take-suc-set es n e (omega arith))
+module _ (ks ss : List ℕ) (allowance : ℕ) (es : List ℕ) (n probes : ℕ) (spent : Bool) (e : ℕ) (room : length es ≡ capacity) where
+  pub push_room : n < capacity → let w = walking ks ss allowance es n probes spent in
+      walking ks ss allowance (set es n e) (n + 1) probes spent ≡ goes_to w (packed_note e w.run.marks w.run)
+  unfolding walking packed_push
+  push_room h = rw (lt-ltb (length (take n es)) capacity (omega (arith, length-take n es)), add-one, take-suc-set es n e (omega arith))
 
-  pub push_full : capacity ≤ n → take n es ≡ packed_push e (take n es)
-  unfolding packed_push
+  pub push_full : capacity ≤ n → let w = walking ks ss allowance es n probes spent in w ≡ goes_to w (packed_note e w.run.marks w.run)
+  unfolding walking packed_push
   push_full h = rw (le-ltb (length (take n es)) capacity (omega (arith, length-take n es)))

@@ -2,11 +2,9 @@
 -- finds is proved (search, proofs/PackedWalk).
 -- An entry is one number: the id with the E5 counted in front of it (one: 1), or a mute's mask, F for unknown, with
 -- 0; in front is what is above 2^32.
-use Rattle.std.specs.Prelude.{◌≡◌, ℕ, zero, suc, ◌+◌, ◌*◌, ◌≤◌, Bool, true, false, List, [], ◌∷◌, ◌++◌, length, take, ◌==◌, nat_le, nat_lt, if◌then◌else◌}
+use Rattle.std.specs.Prelude.{◌≡◌, ℕ, zero, suc, ◌+◌, ◌*◌, Bool, true, false, List, [], ◌∷◌, ◌++◌, length, take, Option, None, Some, ◌==◌, nat_le, nat_lt, if◌then◌else◌}
 use Rattle.list_open.specs.Opening.{capacity}
 use Rattle.search_packed.specs.declared.Found.{Found}
-use Rattle.search_packed.specs.declared.walk.Walk.{Walk}
-use Rattle.search_packed.specs.declared.walk.Probed.{Probed}
 use Rattle.search_packed.specs.ProgramMarks.{masked, acked, read_key_value, read_by, swept_by, fold_by}
 
 -- where a walk stands
@@ -16,28 +14,23 @@ pub record PackedRun : Type 0 where
   pub spent : Bool
   pub marks : List ℕ
 
--- the program's walk with the lent marks and entries
-unfoldable pub view_of : Walk → List ℕ → List ℕ → PackedRun
-view_of w ss es = record { entries = take w.found es; probes = w.probes; spent = w.spent; marks = ss }
+-- the program's walk: the keys that it probes, its allowance, and where it stands
+pub record Walking : Type 0 where
+  pub keys : List ℕ
+  pub allowance : ℕ
+  pub run : PackedRun
 
--- lent arrays of keys, marks and entries have all their places, and no more entries are found than have a place
-pub record Whole (found : ℕ) (ks ss es : List ℕ) : Type 0 where
-  pub fits : found ≤ capacity
-  pub keys : length ks ≡ capacity
-  pub marks : length ss ≡ capacity
-  pub entries : length es ≡ capacity
+unfoldable pub walking : List ℕ → List ℕ → ℕ → List ℕ → ℕ → ℕ → Bool → Walking
+walking ks ss allowance es found probes spent =
+    record { keys = ks; allowance = allowance; run = record { entries = take found es; probes = probes; spent = spent; marks = ss } }
+
+-- the same walk, when it stands at t
+abbrev pub goes_to : Walking → PackedRun → Walking
+goes_to w t = record { keys = w.keys; allowance = w.allowance; run = t }
 
 -- one entry more, as long as there is a place
 unfoldable pub packed_push : ℕ → List ℕ → List ℕ
 packed_push e es = if nat_lt (length es) capacity then es ++ e ∷ [] else es
-
--- what lending the entries es for one more, e, gives
-pub record Noted (w : Walk) (es : List ℕ) (e : ℕ) (r : Walk) (fs : List ℕ) : Type 0 where
-  pub entries : take r.found fs ≡ packed_push e (take w.found es)
-  pub probes : r.probes ≡ w.probes
-  pub spent : r.spent ≡ w.spent
-  pub room : length fs ≡ capacity
-  pub fits : r.found ≤ capacity
 
 -- stopped before the next probe
 abbrev pub packed_stop : PackedRun → PackedRun
@@ -56,9 +49,10 @@ pub record Once : Type 0 where
   pub many : ℕ
   pub run : PackedRun
 
--- the same of the program, with the lent marks and entries
-unfoldable pub once_of : Probed → List ℕ → List ℕ → Once
-once_of r ss es = record { many = r.many; run = view_of r.walk ss es }
+-- the program's word for how many answered: none where it is not several
+abbrev pub several_of : ℕ → Option ℕ
+several_of zero = None
+several_of (suc n) = Some (suc n)
 
 -- n acknowledged: one is read, several are left to the caller
 abbrev pub packed_heard : List ℕ → ℕ → ℕ → List ℕ → PackedRun → Once
@@ -71,6 +65,11 @@ unfoldable pub packed_once : List ℕ → ℕ → ℕ → ℕ → PackedRun → 
 packed_once ks allowance low high t =
     if nat_le allowance t.probes then record { many = 0; run = packed_stop t }
     else packed_heard ks high (fold_by (acked low high) 0 capacity ks t.marks) (swept_by (masked low high) capacity ks t.marks) t
+
+-- what the program's probe of it says and leaves
+pub record Asked (w : Walking) (low high : ℕ) (many : Option ℕ) (v : Walking) : Type 0 where
+  pub answered : many ≡ several_of (packed_once w.keys w.allowance low high w.run).many
+  pub walk : v ≡ goes_to w (packed_once w.keys w.allowance low high w.run).run
 
 -- how far a mask with u digits unknown goes: 16^u - 1
 unfoldable pub span_of : ℕ → ℕ

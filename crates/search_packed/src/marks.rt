@@ -1,12 +1,11 @@
 // A meter as a search packs it, in two numbers: its key, the id whose nibbles are the digits, and its mark, all that
 // a mask or a reading can change (bits.rt).
-ghost use Rattle.std.specs.Prelude.{◌≡◌, ℕ, ◌≤◌, length};
+ghost use Rattle.std.specs.Prelude.{◌≡◌, ℕ, ◌≤◌};
 ghost use Rattle.laws.specs.Words.{within};
 ghost use Rattle.list_open.specs.Opening.{capacity};
-ghost use Rattle.search_packed.specs.ProgramMarks.{yes_of, hears_of_value, marked, masked, acked, readouts_in, read_mark_value, read_key_value, read_by, swept_by, fold_by};
+ghost use Rattle.search_packed.specs.ProgramMarks.{yes_of, hears_of_value, marked, masked, acked, readouts_in, readable, read_mark_value, read_key_value, read_by, swept_by, fold_by};
 
 use crate::bits::{ACCESS, CLEAR, FAILS, FLAKY, FRESH, HEARS, READOUTS, STEADY, TOO_MANY};
-use laws::bit;
 use list_open::METERS;
 
 // 1 where the meter answers a telegram; put is 1 where the telegram is put to it.
@@ -42,25 +41,23 @@ fn is_between(low: u32, high: u32, x: u32) -> bool
     requires { low ≤ high }
     ensures { result ≡ within low high x }
 {
-    std::num::wrapping_sub_u32(x, low) <= high - low
+    x.wrapping_sub(low) <= high - low
 }
 
 // The mask of the ids from low to high is sent: how many acknowledge it.
 // This is 01's probe of the segment that keys and marks stand for (search, proofs/PackedProbe.antt, `probe-packed`).
 pub(crate) fn send_mask(keys: &[u32; METERS], marks: &mut [u32; METERS], low: u32, high: u32) -> u32
-    requires { (length keys.now ≡ capacity) × (length marks.old ≡ capacity) × (low ≤ high) }
+    requires { low ≤ high }
     ensures { (marks.new ≡ swept_by (masked low high) capacity keys.now marks.old)
-        × (result ≡ fold_by (acked low high) 0 capacity keys.now marks.old) × (result ≤ capacity) × (length marks.new ≡ capacity) }
+        × (result ≡ fold_by (acked low high) 0 capacity keys.now marks.old) }
 {
-    let mut acks: u32 = 0;
-    let mut i: usize = 0;
-    while i < METERS {
-        let k = keys[i];
-        let offered = bit(is_between(low, high, k));
-        let t = mask_mark(marks[i], offered);
-        marks[i] = t;
-        acks = acks + t % 2;
-        i += 1;
+    let mut acks = 0u32;
+    // By index: after `marks.iter_mut().zip(keys)` a proof knows the length of the marks, and not the marks.
+    for i in 0..METERS {
+        let offered = u32::from(is_between(low, high, keys[i]));
+        let mark = mask_mark(marks[i], offered);
+        marks[i] = mark;
+        acks += mark % 2;
     }
     acks
 }
@@ -71,9 +68,12 @@ fn readouts(mark: u32) -> u32
 {
     let n = mark / READOUTS % 256;
     if mark / TOO_MANY % 2 == 0 {
-        return n;
+        n
+    } else if n < 3 {
+        n + 1
+    } else {
+        3
     }
-    if n < 3 { n + 1 } else { 3 }
 }
 
 // A mark after a reading, which is put to the selected.
@@ -86,7 +86,7 @@ fn read_mark(mark: u32) -> u32
     if yes == 0 {
         return mark / CLEAR * CLEAR + hears * HEARS + mark % HEARS;
     }
-    let access = std::num::wrapping_add_u8((mark / ACCESS % 256) as u8, 1);
+    let access = ((mark / ACCESS % 256) as u8).wrapping_add(1);
     mark / STEADY % 16 * STEADY
         + CLEAR
         + hears * HEARS
@@ -95,40 +95,36 @@ fn read_mark(mark: u32) -> u32
         + access as u32 * ACCESS
 }
 
+// Its reply is good.
+fn is_readable(mark: u32) -> bool
+    ensures { result ≡ readable mark }
+{
+    mark / FAILS % 2 == 0 && (mark / TOO_MANY % 2 == 0 || mark / READOUTS % 256 < 2)
+}
+
 // The id that a reading brings, behind a 1; a meter whose reply is not good leaves what was there.
 fn read_key(id: u64, key: u32, mark: u32) -> u64
     ensures { result ≡ read_key_value id key mark }
 {
-    let yes = yes_of(mark, mark % 2);
-    if yes == 1 {
-        if mark / FAILS % 2 == 0 {
-            if mark / TOO_MANY % 2 == 0 {
-                return 0x100000000 + key as u64;
-            }
-            if mark / READOUTS % 256 < 2 {
-                return 0x100000000 + key as u64;
-            }
-        }
+    if yes_of(mark, mark % 2) == 1 && is_readable(mark) {
+        0x100000000 + u64::from(key)
+    } else {
+        id
     }
-    id
 }
 
 // REQ_UD2 is sent to the selected: the id that the reply brings, else mute.
 // Where one is selected, this is 01's reading of that segment (search, proofs/PackedRead.antt, `read-packed`).
 pub(crate) fn read_selected(keys: &[u32; METERS], marks: &mut [u32; METERS], mute: u64) -> u64
-    requires { (length keys.now ≡ capacity) × (length marks.old ≡ capacity) }
     ensures { (marks.new ≡ swept_by read_by capacity keys.now marks.old)
-        × (result ≡ fold_by read_key_value mute capacity keys.now marks.old) × (length marks.new ≡ capacity) }
+        × (result ≡ fold_by read_key_value mute capacity keys.now marks.old) }
 {
-    let mut id: u64 = mute;
-    let mut i: usize = 0;
-    while i < METERS {
-        let s = marks[i];
-        let k = keys[i];
-        id = read_key(id, k, s);
-        let t = read_mark(s);
-        marks[i] = t;
-        i += 1;
+    let mut id = mute;
+    // By index: after `marks.iter_mut().zip(keys)` a proof knows the length of the marks, and not the marks.
+    for i in 0..METERS {
+        let mark = marks[i];
+        id = read_key(id, keys[i], mark);
+        marks[i] = read_mark(mark);
     }
     id
 }

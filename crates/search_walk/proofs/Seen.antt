@@ -8,7 +8,7 @@ use Rattle.laws.specs.Words.{Every}
 use Rattle.meter.specs.PlainMeter.{PlainMeter}
 use Rattle.meter.specs.declared.Fault.{Fault}
 use Rattle.meter.specs.declared.Model.TheVariants.{Water}
-use Rattle.meter.specs.declared.LastFcb.TheVariants.{Never}
+use Rattle.std.specs.Prelude.{None}
 use Rattle.list_open.specs.Opening.{capacity}
 use Rattle.segment.specs.Plain.{Plain}
 use Rattle.search_walk.specs.Entries.{at_bus_baud}
@@ -29,7 +29,7 @@ known digits fault readouts =
       baud = 0;
       selected = false;
       part = 0;
-      last = Never;
+      last = None;
       readouts = readouts;
       seed = 0;
       hears_next = false;

@@ -17,6 +17,7 @@ pub const INPUT: usize = 260;
 // As many bytes as can be queued.
 pub const QUEUE: usize = 4096;
 
+// Arrays with a length beside: the image, which C lends, holds the same bytes in place, and a definition reads them as lists.
 #[derive(Clone, Copy)]
 pub struct Segment {
     pub meters: [Meter; METERS],
@@ -29,29 +30,19 @@ pub struct Segment {
     pub queued: usize,
 }
 
-fn blank_input() -> [u8; INPUT] {
-    [0u8; INPUT]
-}
-
-fn blank_queue() -> [u8; QUEUE] {
-    [0u8; QUEUE]
-}
-
 impl Segment {
     // The first `count` meters; nothing waits, and nothing is queued.
     pub fn opened(meters: [Meter; METERS], count: usize, baud: u32, origin: f64) -> Segment
         ensures { plain_of result ≡ record { baud = baud; origin = origin; input = []; queue = []; meters = map plain_meter (take count meters) } }
     {
-        let input = blank_input();
-        let queue = blank_queue();
         Segment {
             meters,
             count,
             baud,
             origin,
-            input,
+            input: [0; INPUT],
             waiting: 0,
-            queue,
+            queue: [0; QUEUE],
             queued: 0,
         }
     }

@@ -2,6 +2,7 @@
 #![tactic(auto)]
 
 ghost use Rattle.std.specs.Prelude.{◌≡◌};
+ghost use Rattle.laws.specs.Refusal.{refused_baud};
 ghost use Rattle.list_check.specs.Refusals.{refusal_number_value, refusal_index_value};
 ghost use Rattle.segment.specs.Calls;
 ghost use Rattle.segment_image.specs.Image.{decode_image};
@@ -18,18 +19,19 @@ use segment_places::{head, input, queue};
 const HANDED_OUT: usize = 32;
 
 // An accepted opening builds the segment anew; a refused one leaves the segment in use.
-pub fn open(image: &mut [u8; IMAGE], list: &[u8], baud: u32, practice: bool, origin: f64) -> Refusal
+pub fn open(
+    image: &mut [u8; IMAGE],
+    list: &[u8],
+    baud: u32,
+    practice: bool,
+    origin: f64,
+) -> Result<(), Refusal>
     ensures { OpenedImage list.now baud practice origin (refusal_number_value result) (refusal_index_value result) image.old image.new }
 {
-    let m = list_open::meters_of(list, baud, practice);
-    let answer = m.refusal;
-    if !list_check::refusal::is_accepted(answer) {
-        return answer;
-    }
-    let meters = m.meters;
-    let opened = Segment::opened(meters, m.count, baud, origin);
+    let m = list_open::meters_of(list, baud, practice)?;
+    let opened = Segment::opened(m.meters, m.count, baud, origin);
     segment_image::write_image(opened, image);
-    answer
+    Ok(())
 }
 
 // Hands out the least of 32, the lent length and the queued bytes; lent bytes past these stay.
@@ -48,30 +50,37 @@ pub fn clear(image: &mut [u8; IMAGE])
     queue::empty(image)
 }
 
-// What a baud change answers: accepted, or 10.
-#[derive(Clone, Copy)]
-pub enum Changing {
-    Accepted,
-    NoRate,
+// The baud is none of the eight rates.
+#[derive(Clone, Copy, PartialEq, Eq, Debug)]
+pub struct NoRate;
+
+impl NoRate {
+    // Its number of 01's places of refusal.
+    pub fn number(self) -> u32
+        ensures { result ≡ refused_baud }
+    {
+        refused::BAUD
+    }
 }
 
-pub fn changing_number(answer: Changing) -> u32
+// The number of what a baud change answered, as C is told it.
+pub fn changing_number(answer: Result<(), NoRate>) -> u32
     ensures { result ≡ changing_number_value answer }
 {
     match answer {
-        Changing::Accepted => refused::NOT_REFUSED,
-        Changing::NoRate => refused::BAUD,
+        Ok(()) => refused::NOT_REFUSED,
+        Err(refusal) => refusal.number(),
     }
 }
 
 // Sets the bus baud and empties the input, nothing else.
-pub fn set_baud(image: &mut [u8; IMAGE], baud: u32) -> Changing
+pub fn set_baud(image: &mut [u8; IMAGE], baud: u32) -> Result<(), NoRate>
     ensures { DoneImage (Calls.change_baud baud (decode_image image.old)) (changing_number_value result) image.old image.new }
 {
     if !list_check::tables::is_rate(baud) {
-        return Changing::NoRate;
+        return Err(NoRate);
     }
     head::put_baud(image, baud);
     input::discard(image);
-    Changing::Accepted
+    Ok(())
 }

@@ -1,21 +1,24 @@
 -- What the program's export answers, in the terms of the definitions.
-use Rattle.std.specs.Prelude.{List, ℕ}
+use Rattle.std.specs.Prelude.{List, ℕ, Result, Ok, Err}
 use Rattle.laws.specs.Refusal.{not_refused, refused_room, refused_high_primary}
 use Rattle.segment_export.specs.Export.{Exported}
-use Rattle.segment_export.specs.declared.Exporting.{Exporting}
-use Rattle.segment_export.specs.declared.Exporting.TheVariants.{Bytes, HighPrimary, NoRoom}
+use Rattle.segment_export.specs.declared.ExportError.{ExportError}
+use Rattle.segment_export.specs.declared.ExportError.TheVariants.{HighPrimary, NoRoom}
 
--- its number. 18: a primary above 250; 12: lent bytes too few. 0: accepted
-abbrev pub exporting_number_value : Exporting → ℕ
-exporting_number_value (Bytes n) = not_refused
-exporting_number_value HighPrimary = refused_high_primary
-exporting_number_value NoRoom = refused_room
+-- why it was refused, as a number. 18: a primary above 250; 12: lent bytes too few
+abbrev pub export_error_number : ExportError → ℕ
+export_error_number HighPrimary = refused_high_primary
+export_error_number NoRoom = refused_room
+
+-- its number. 0: accepted
+abbrev pub exporting_number_value : Result ℕ ExportError → ℕ
+exporting_number_value (Ok n) = not_refused
+exporting_number_value (Err refusal) = export_error_number refusal
 
 -- how many bytes it wrote
-abbrev pub exporting_count_value : Exporting → ℕ
-exporting_count_value (Bytes n) = n
-exporting_count_value HighPrimary = 0
-exporting_count_value NoRoom = 0
+abbrev pub exporting_count_value : Result ℕ ExportError → ℕ
+exporting_count_value (Ok n) = n
+exporting_count_value (Err refusal) = 0
 
 -- a number, how many bytes, and the lent bytes afterwards
 abbrev pub exported_by : ℕ → ℕ → List ℕ → Exported

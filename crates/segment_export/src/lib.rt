@@ -8,7 +8,7 @@ ghost use Rattle.list_write.specs.Record.{record_for};
 ghost use Rattle.segment_image.specs.Image.{decode_image};
 ghost use Rattle.segment_export.specs.Export.{any_above250, export_into_value};
 ghost use Rattle.segment_export.specs.ProgramExport.{AppendsRecord, RecordsWritten};
-ghost use Rattle.segment_export.specs.View.{exporting_number_value, exporting_count_value, exported_by};
+ghost use Rattle.segment_export.specs.View.{export_error_number, exporting_number_value, exporting_count_value, exported_by};
 
 use laws::refused;
 use list_write::REST;
@@ -20,32 +20,40 @@ use segment_places::{head, meters};
 // As many bytes as the records of a segment have at the most, each after its length byte.
 const RECORDS: usize = (REST + 1) * METERS;
 
-// What an export answers: how many bytes it wrote, or a refusal.
-#[derive(Clone, Copy)]
-pub enum Exporting {
-    Bytes(u16),
+// Why an export is refused: a primary above 250, or lent bytes too few.
+#[derive(Clone, Copy, PartialEq, Eq, Debug)]
+pub enum ExportError {
     HighPrimary,
     NoRoom,
 }
 
-pub fn exporting_number(answer: Exporting) -> u32
-    ensures { result ≡ exporting_number_value answer }
-{
-    match answer {
-        Exporting::Bytes(n) => refused::NOT_REFUSED,
-        Exporting::HighPrimary => refused::HIGH_PRIMARY,
-        Exporting::NoRoom => refused::ROOM,
+impl ExportError {
+    // Its number of the places of refusal.
+    pub fn number(self) -> u32
+        ensures { result ≡ export_error_number self }
+    {
+        match self {
+            ExportError::HighPrimary => refused::HIGH_PRIMARY,
+            ExportError::NoRoom => refused::ROOM,
+        }
     }
 }
 
-pub fn exporting_count(answer: Exporting) -> u16
-    ensures { result ≡ exporting_count_value answer }
+// The number of what an export answered, as C is told it.
+pub fn exporting_number(answer: Result<u16, ExportError>) -> u32
+    ensures { result ≡ exporting_number_value answer }
 {
     match answer {
-        Exporting::Bytes(n) => n,
-        Exporting::HighPrimary => 0,
-        Exporting::NoRoom => 0,
+        Ok(_) => refused::NOT_REFUSED,
+        Err(refusal) => refusal.number(),
     }
+}
+
+// How many bytes it wrote; a refused one none.
+pub fn exporting_count(answer: Result<u16, ExportError>) -> u16
+    ensures { result ≡ exporting_count_value answer }
+{
+    answer.unwrap_or(0)
 }
 
 // Whether a meter has a primary that an opening refuses.
@@ -53,19 +61,13 @@ fn any_above_250(image: &[u8; IMAGE]) -> bool
     ensures { result ≡ any_above250 (decode_image image.now).meters }
 {
     let count = head::count_of(image);
-    let mut i: usize = 0;
-    while i < count {
+    for i in 0..count {
         let m = meters::meter_at(image, i);
         if 250 < m.state.primary {
             return true;
         }
-        i += 1;
     }
     false
-}
-
-fn no_records() -> [u8; RECORDS] {
-    [0u8; RECORDS]
 }
 
 // The record of a meter, whatever its baud, behind the first `at` bytes; the place behind it.
@@ -84,11 +86,9 @@ fn write_records(image: &[u8; IMAGE], to: &mut [u8]) -> usize
     let bus = head::baud_of(image);
     let count = head::count_of(image);
     let mut at: usize = 0;
-    let mut i: usize = 0;
-    while i < count {
+    for i in 0..count {
         let m = meters::meter_at(image, i);
         at = append_meter(to, at, bus, m);
-        i += 1;
     }
     at
 }
@@ -98,7 +98,8 @@ fn head_bytes(n: usize) -> [u8; 3]
     requires { n < 65536 }
     ensures { result ≡ 1 ∷ n / 256 ∷ n % 256 ∷ [] }
 {
-    [1, (n / 256) as u8, (n % 256) as u8]
+    let [high, low] = (n as u16).to_be_bytes();
+    [1, high, low]
 }
 
 // The whole list over the first of the lent bytes.
@@ -113,17 +114,17 @@ fn write_list(lent: &mut [u8], records: &[u8])
 
 // Writes the present meters, in segment order, as a list to be opened at the bus baud.
 // 18: a primary above 250; 12: lent bytes too few.
-pub fn export(image: &[u8; IMAGE], lent: &mut [u8]) -> Exporting
+pub fn export(image: &[u8; IMAGE], lent: &mut [u8]) -> Result<u16, ExportError>
     ensures { exported_by (exporting_number_value result) (exporting_count_value result) lent.new ≡ export_into_value lent.old (decode_image image.now) }
 {
     if any_above_250(image) {
-        return Exporting::HighPrimary;
+        return Err(ExportError::HighPrimary);
     }
-    let mut records = no_records();
+    let mut records = [0u8; RECORDS];
     let n = write_records(image, &mut records);
     if lent.len() < n + 3 {
-        return Exporting::NoRoom;
+        return Err(ExportError::NoRoom);
     }
     write_list(lent, &records[..n]);
-    Exporting::Bytes((n + 3) as u16)
+    Ok((n + 3) as u16)
 }

@@ -3,8 +3,9 @@ use mathlib.Core.Path.{◌≡◌, sym, ap, ◌∙◌}
 use mathlib.Core.List.{List, [], ◌++◌, append_assoc}
 use Prim.Native.Nat.{ℕ, ◌+◌, ◌-◌, ◌≤◌}
 use native.Mathlib.Omega.{arith}
+use borrow.Rule.Slice.PartMut.{put_mid}
 use lib.ListN.{length, take, drop, length-take, length-drop}
-use lib.Seq.{paste, take-paste, length-paste, take-append-le, take-take, drop_at, drop-length, length-take-le}
+use lib.Seq.{paste, drop-drop, take-paste, length-paste, take-append-le, take-take, drop_at, drop-length, length-take-le}
 use Rattle.laws.proofs.Copying.{drop-take}
 use Rattle.laws.proofs.Lists.{take_rest}
 use Rattle.segment_image.specs.Image.{block}
@@ -24,6 +25,11 @@ module _ (d : List ℕ) (p : ℕ) (s : List ℕ) (n : ℕ) (h : p + n ≤ length
       sym (drop-take p n (paste d p s n) (omega arith))
       ∙ ap (drop p) (take-paste d p s n (omega arith) m)
       ∙ drop_at (take p d) (take n s) p (length-take-le p d (omega arith))
+
+-- n elements of s, from its front, put over those of d from p on
+pub put_over : (d s ys : List ℕ) (p k n : ℕ) → ys ≡ take n s → k ≡ n → put_mid p k d ys ≡ paste d p s n
+put_over d s ys p k n e h =
+    rw (e, h, drop-drop n p d) (sym (append_assoc (take p d) (take n s) (drop (p + n) d)))
 
 -- a block within the first k
 pub block-take : (p n k : ℕ) (l : List ℕ) → p + n ≤ k → p + n ≤ length l → block p n (take k l) ≡ block p n l

@@ -5,6 +5,7 @@ use mathlib.Core.List.{List, [], ◌∷◌}
 use Prim.Native.Nat.{ℕ, ◌≤◌, ◌<◌}
 use lib.ListN.{length}
 use borrow.Author.Tests.{lt-ltb, le-ltb}
+use Rattle.std.specs.Int.{from_bool}
 use Rattle.laws.specs.Words.{bit_if, at}
 use Rattle.numbers.specs.Values.{little}
 use Rattle.meter_identity.specs.Identity.{digits_of_value, id_bytes_value}
@@ -16,9 +17,9 @@ use Rattle.meter.specs.declared.Fault.{Fault}
 use Rattle.meter.specs.declared.Fault.TheVariants.{None, Checksum, Truncated, Busy, WrongAddress, Flaky, TooMany}
 use Rattle.meter.specs.declared.Model.{Model}
 use Rattle.meter.specs.declared.Model.TheVariants.{Heat, Electricity, Water, Fixed}
-use Rattle.meter.specs.declared.LastFcb.{LastFcb}
-use Rattle.meter.specs.declared.LastFcb.TheVariants.{Never, Clear, Set}
-use Rattle.segment_image.specs.MeterBytes.{flag_by, model_by, fault_by, last_by, decode_meter, whole_meter, model_byte_value, fault_byte_value, last_byte_value, encode_meter}
+use Rattle.meter.specs.Kinds.{model_by, fault_by, model_byte_value, fault_byte_value}
+use Rattle.std.specs.Prelude.{Option, Some, None as no_fcb}
+use Rattle.segment_image.specs.MeterBytes.{flag_by, last_by, decode_meter, whole_meter, last_byte_value, encode_meter}
 use Rattle.numbers.specs.Number.{number}
 
 -- a meter, if each part says so
@@ -40,6 +41,11 @@ few bs h = rw (lt-ltb (length bs) 25 h)
 pub enough : (bs : List ℕ) → 25 ≤ length bs → whole_meter bs ≡ bs
 enough bs h = rw (le-ltb (length bs) 25 h)
 
+-- std's byte of a flag
+pub flag_is : (b : Bool) → from_bool b ≡ bit_if b
+flag_is true = refl
+flag_is false = refl
+
 -- what a byte is written for, it is read as
 pub flag_back : (b : Bool) → flag_by (bit_if b) ≡ b
 flag_back true = refl
@@ -60,10 +66,10 @@ fault_back WrongAddress = refl
 fault_back Flaky = refl
 fault_back TooMany = refl
 
-pub last_back : (l : LastFcb) → last_by (last_byte_value l) ≡ l
-last_back Never = refl
-last_back Clear = refl
-last_back Set = refl
+pub last_back : (l : Option Bool) → last_by (last_byte_value l) ≡ l
+last_back no_fcb = refl
+last_back (Some false) = refl
+last_back (Some true) = refl
 
 -- the bytes of a meter, by those of its numbers and by its marks
 abbrev row : Meter → List ℕ → List ℕ → List ℕ → List ℕ → ℕ → ℕ → ℕ → ℕ → ℕ → List ℕ

@@ -8,7 +8,7 @@ use Rattle.numbers.specs.Values.{little}
 use Rattle.meter_identity.specs.Identity.{id_bytes_value, digits_of_value}
 use Rattle.meter.specs.declared.Fault.TheVariants.{Flaky}
 use Rattle.meter.specs.declared.Model.TheVariants.{Water}
-use Rattle.meter.specs.declared.LastFcb.TheVariants.{Set}
+use Rattle.std.specs.Prelude.{Some}
 use Rattle.segment_image.specs.MeterBytes.{decode_meter, encode_meter}
 use Rattle.numbers.specs.Number.{number}
 
@@ -35,7 +35,7 @@ a_meter_is =
       baud = 2400;
       selected = true;
       part = 0;
-      last = Set;
+      last = Some true;
       readouts = 3;
       seed = 1234;
       hears_next = false;

@@ -10,13 +10,11 @@ ghost use Rattle.segment_image.specs.MeterBytes.{encode_meter};
 ghost use Rattle.segment.specs.View.{plain_of};
 ghost use Rattle.segment_image.specs.Image.{block, meters, decode_image, Head, head_bytes_value, IsImage};
 
-use laws::least;
 use meter::Meter;
 use numbers::{four, two};
 use segment::{INPUT, METERS, QUEUE, Segment};
 
 pub mod meters; // meters.rt: a meter as 25 bytes
-mod written; // written.rt: numbers as bytes
 mod copying; // copying.rt: the eight bytes of an f64's pattern, and blocks of bytes
 
 // Where the parts lie: how many meters there are, how many bytes wait and how many are queued, two bytes each; the
@@ -53,12 +51,9 @@ fn read_meters(bs: &[u8], count: usize) -> [Meter; METERS]
     ensures { map plain_meter (take count result) ≡ meters count bs.now }
 {
     let mut ms = blank_meters();
-    let mut i: usize = 0;
-    while i < count {
+    for i in 0..count {
         let p = METER * i;
-        let m = meters::read_meter(&bs[p..p + METER]);
-        ms[i] = m;
-        i += 1;
+        ms[i] = meters::read_meter(&bs[p..p + METER]);
     }
     ms
 }
@@ -68,43 +63,22 @@ fn write_meters(ms: [Meter; METERS], count: usize, bs: &mut [u8])
     requires { (length bs.old ≡ 25 * capacity) × (count ≤ capacity) }
     ensures { (bs.new ≡ each (map plain_meter (take count ms)) encode_meter ++ drop (25 * count) bs.old) × (meters count bs.new ≡ map plain_meter (take count ms)) }
 {
-    let mut i: usize = 0;
-    while i < count {
-        let m = ms[i];
-        let b = meters::meter_bytes(m);
+    for i in 0..count {
+        let b = meters::meter_bytes(ms[i]);
         copying::copy(&b, 0, METER, bs, METER * i);
-        i += 1;
     }
 }
 
 // ---- the segment
 
-fn blank_input() -> [u8; INPUT] {
-    [0u8; INPUT]
-}
-
-// The first n bytes of the input; the others are 0.
-fn read_input(bs: &[u8], n: usize) -> [u8; INPUT]
-    requires { (278 ≤ length bs.now) × (n ≤ 260) }
-    ensures { take n result ≡ block 18 n bs.now }
+// The first n of the bytes of a part that lies at a place; the others are 0.
+fn read_part<const N: usize>(bs: &[u8], at: usize, n: usize) -> [u8; N]
+    requires { (at + N ≤ length bs.now) × (n ≤ N) }
+    ensures { take n result ≡ block at n bs.now }
 {
-    let mut input = blank_input();
-    copying::copy(bs, INPUT_AT, n, &mut input, 0);
-    input
-}
-
-fn blank_queue() -> [u8; QUEUE] {
-    [0u8; QUEUE]
-}
-
-// The first n bytes of the queue; the others are 0.
-fn read_queue(bs: &[u8], n: usize) -> [u8; QUEUE]
-    requires { (4374 ≤ length bs.now) × (n ≤ 4096) }
-    ensures { take n result ≡ block 278 n bs.now }
-{
-    let mut queue = blank_queue();
-    copying::copy(bs, QUEUE_AT, n, &mut queue, 0);
-    queue
+    let mut part = [0; N];
+    part[..n].copy_from_slice(&bs[at..at + n]);
+    part
 }
 
 // Any bytes mean a segment.
@@ -112,11 +86,11 @@ pub fn read_image(image: &[u8; IMAGE]) -> Segment
     ensures { plain_of result ≡ decode_image image.now }
 {
     let bs = &image[..];
-    let count = least(two(bs[12], bs[13]) as usize, METERS);
-    let waiting = least(two(bs[14], bs[15]) as usize, INPUT);
-    let queued = least(two(bs[16], bs[17]) as usize, QUEUE);
-    let input = read_input(bs, waiting);
-    let queue = read_queue(bs, queued);
+    let count = usize::from(two(bs[COUNT_AT], bs[COUNT_AT + 1])).min(METERS);
+    let waiting = usize::from(two(bs[WAITING_AT], bs[WAITING_AT + 1])).min(INPUT);
+    let queued = usize::from(two(bs[QUEUED_AT], bs[QUEUED_AT + 1])).min(QUEUE);
+    let input = read_part::<INPUT>(bs, INPUT_AT, waiting);
+    let queue = read_part::<QUEUE>(bs, QUEUE_AT, queued);
     let meters = read_meters(&bs[METERS_AT..], count);
     Segment {
         meters,
@@ -151,24 +125,21 @@ fn write_parts(s: Segment, bs: &mut [u8])
     requires { (length bs.old ≡ 4374 + 25 * capacity) × (bs.old ≡ replicate (length bs.old) 0) }
     ensures { IsImage (plain_of s) bs.new }
 {
-    let count = least(s.count, METERS);
-    let waiting = least(s.waiting, INPUT);
-    let queued = least(s.queued, QUEUE);
+    let count = s.count.min(METERS);
+    let waiting = s.waiting.min(INPUT);
+    let queued = s.queued.min(QUEUE);
     let head = head_bytes(s.baud, s.origin, count, waiting, queued);
-    let input = s.input;
-    let queue = s.queue;
-    let meters = s.meters;
     copying::copy(&head, 0, INPUT_AT, bs, 0);
-    copying::copy(&input, 0, waiting, bs, INPUT_AT);
-    copying::copy(&queue, 0, queued, bs, QUEUE_AT);
-    write_meters(meters, count, &mut bs[METERS_AT..]);
+    copying::copy(&s.input, 0, waiting, bs, INPUT_AT);
+    copying::copy(&s.queue, 0, queued, bs, QUEUE_AT);
+    write_meters(s.meters, count, &mut bs[METERS_AT..]);
 }
 
 // The image of the segment. Equal segments have equal images.
 pub fn write_image(s: Segment, image: &mut [u8; IMAGE])
     ensures { IsImage (plain_of s) image.new }
 {
-    copying::blank(image);
+    image.fill(0);
     write_parts(s, image)
 }
 

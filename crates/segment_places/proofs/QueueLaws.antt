@@ -1,6 +1,6 @@
 -- More bytes in the queue of an image, and other input that waits in it.
 use mathlib.Core.Path.{◌≡◌, refl, sym, ap, ap₂, ◌∙◌}
-use mathlib.Core.Bool.{Bool, true, false}
+use Rattle.std.specs.Prelude.{Ok, Err}
 use mathlib.Core.List.{List, [], ◌∷◌, ◌++◌, append_assoc}
 use Prim.Native.Nat.{ℕ, ◌+◌, ◌-◌, ◌≤◌, ◌<◌, min}
 use native.Mathlib.Nat.{zero-add}
@@ -14,6 +14,7 @@ use Rattle.numbers.proofs.NumberLaws.{number-little}
 use Rattle.segment.specs.Plain.{with_input, with_queue}
 use Rattle.segment_image.specs.Image.{decode_image, filled, encode_image}
 use Rattle.segment_image.proofs.Filled.{length-filled, drop_zeros, paste-whole}
+use Rattle.segment_places.specs.declared.queue.QueueFull.{QueueFull}
 use Rattle.segment_places.specs.ProgramBecomes.{Becomes, Queues}
 use Rattle.segment_places.proofs.PlaceLaws.{paste_behind, input_short, queue_short, queue_count}
 use Rattle.segment_places.proofs.PartLaws.{whole, Parts, head_of, meters_of_value, parts-mean, put_waiting, put_queued, put_input_lem, put_queue, parts_are, parts_long, queued_at, image_parts, image_parts_long, little_two}
@@ -23,10 +24,6 @@ zeros n = replicate n 0
 
 zeros_260 : length (zeros 260) ≡ 260
 zeros_260 = length-replicate {A = ℕ} 260 0
-
--- false is not true
-never : {A : Type 0} → ◌≡◌ {A = Bool} false true → A
-never e = let z : ◌≡◌ {A = ℕ} 0 1 = cc in absurd (omega arith)
 
 -- the first so many, or all there are
 pub take_least : (n k : ℕ) (xs : List ℕ) → k ≡ min (length xs) n → take k xs ≡ take n xs
@@ -104,11 +101,11 @@ module _ (l b : List ℕ) (q n : ℕ) (long : length l ≡ 5974) (is : q ≡ len
   queue_becomes = record { long = queued_long; means = queued_means; exact = queued_exact }
 
 -- or there is no room for them
-pub queues_not : {more old : List ℕ} → 4096 < length (decode_image old).queue + length more → Queues more old false old
-queues_not h = record { done = λ e. never e; full = λ e. h; stays = λ e. refl }
+pub queues_not : {more old : List ℕ} {why : QueueFull} → 4096 < length (decode_image old).queue + length more → Queues more old (Err why) old
+queues_not h = record { done = tt; full = h; stays = refl }
 
-pub queues : {more old new : List ℕ} → Becomes old (with_queue ((decode_image old).queue ++ more) (decode_image old)) new → Queues more old true new
-queues b = record { done = λ e. b; full = λ e. never (sym e); stays = λ e. never (sym e) }
+pub queues : {more old new : List ℕ} → Becomes old (with_queue ((decode_image old).queue ++ more) (decode_image old)) new → Queues more old (Ok tt) new
+queues b = record { done = b; full = tt; stays = tt }
 
 -- ---- the input
 

@@ -5,7 +5,6 @@ ghost use Rattle.segment_image.specs.Image.{decode_image};
 ghost use Rattle.segment_places.specs.ProgramBecomes.{Becomes};
 
 use crate::place;
-use laws::least;
 use segment::{INPUT, METERS, QUEUE};
 use segment_image::{COUNT_AT, IMAGE, QUEUED_AT, WAITING_AT};
 
@@ -27,19 +26,19 @@ pub fn origin_of(image: &[u8; IMAGE]) -> f64
 pub fn count_of(image: &[u8; IMAGE]) -> usize
     ensures { result ≡ length (decode_image image.now).meters }
 {
-    least(place::two_at(image, COUNT_AT), METERS)
+    place::two_at(image, COUNT_AT).min(METERS)
 }
 
 pub fn waiting_of(image: &[u8; IMAGE]) -> usize
     ensures { result ≡ length (decode_image image.now).input }
 {
-    least(place::two_at(image, WAITING_AT), INPUT)
+    place::two_at(image, WAITING_AT).min(INPUT)
 }
 
 pub fn queued_of(image: &[u8; IMAGE]) -> usize
     ensures { result ≡ length (decode_image image.now).queue }
 {
-    least(place::two_at(image, QUEUED_AT), QUEUE)
+    place::two_at(image, QUEUED_AT).min(QUEUE)
 }
 
 // Another bus baud.

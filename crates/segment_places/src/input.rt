@@ -5,7 +5,6 @@ ghost use Rattle.segment_image.specs.Image.{decode_image};
 ghost use Rattle.segment_places.specs.ProgramBecomes.{Becomes};
 
 use crate::{head, place};
-use laws::least;
 use segment::INPUT;
 use segment_image::{IMAGE, INPUT_AT, WAITING_AT};
 
@@ -14,19 +13,12 @@ pub const PIECE: usize = 1024;
 
 pub const LINE: usize = INPUT + PIECE;
 
-fn nothing() -> [u8; INPUT]
-    ensures { result ≡ replicate 260 0 }
-{
-    [0u8; INPUT]
-}
-
 // These bytes, and 0 behind them.
 fn put_input(image: &mut [u8; IMAGE], rest: &[u8])
     requires { length rest.now ≤ 260 }
     ensures { Becomes image.old (with_input rest.now (decode_image image.old)) image.new }
 {
-    let none = nothing();
-    place::put(image, INPUT_AT, &none);
+    place::fill(image, INPUT_AT, INPUT, 0);
     place::put(image, INPUT_AT, rest);
     place::put_two(image, WAITING_AT, rest.len())
 }
@@ -35,7 +27,7 @@ fn put_input(image: &mut [u8; IMAGE], rest: &[u8])
 pub fn keep(image: &mut [u8; IMAGE], rest: &[u8])
     ensures { Becomes image.old (with_input (take 260 rest.now) (decode_image image.old)) image.new }
 {
-    let n = least(rest.len(), INPUT);
+    let n = rest.len().min(INPUT);
     put_input(image, &rest[..n])
 }
 
@@ -44,8 +36,7 @@ pub fn discard(image: &mut [u8; IMAGE])
     ensures { Becomes image.old (with_input [] (decode_image image.old)) image.new }
 {
     if head::waiting_of(image) != 0 {
-        let none = nothing();
-        put_input(image, &none[..0])
+        put_input(image, &[])
     }
 }
 
@@ -58,15 +49,11 @@ pub fn waiting(image: &[u8; IMAGE]) -> &[u8]
     &whole[INPUT_AT..INPUT_AT + n]
 }
 
-fn blank_line() -> [u8; LINE] {
-    [0u8; LINE]
-}
-
 fn line_of(image: &[u8; IMAGE], waiting: usize, piece: &[u8]) -> [u8; LINE]
     requires { (waiting ≡ length (decode_image image.now).input) × (length piece.now ≤ 1024) }
     ensures { take (waiting + length piece.now) result ≡ (decode_image image.now).input ++ piece.now }
 {
-    let mut line = blank_line();
+    let mut line = [0; LINE];
     let whole = &image[..];
     place::put(&mut line, 0, &whole[INPUT_AT..INPUT_AT + waiting]);
     place::put(&mut line, waiting, piece);
@@ -77,6 +64,6 @@ fn line_of(image: &[u8; IMAGE], waiting: usize, piece: &[u8]) -> [u8; LINE]
 pub fn with_piece(image: &[u8; IMAGE], piece: &[u8]) -> [u8; LINE]
     ensures { take (length (decode_image image.now).input + min (length piece.now) 1024) result ≡ (decode_image image.now).input ++ take 1024 piece.now }
 {
-    let n = least(piece.len(), PIECE);
+    let n = piece.len().min(PIECE);
     line_of(image, head::waiting_of(image), &piece[..n])
 }

@@ -11,7 +11,7 @@ pub(crate) fn put(image: &mut [u8], p: usize, bytes: &[u8])
     requires { p + length bytes.now ≤ length image.old }
     ensures { image.new ≡ paste image.old p bytes.now (length bytes.now) }
 {
-    laws::copy(bytes, &mut image[p..]);
+    image[p..p + bytes.len()].copy_from_slice(bytes);
 }
 
 // n times the byte b over those from p on.
@@ -19,11 +19,7 @@ pub(crate) fn fill(image: &mut [u8], p: usize, n: usize, b: u8)
     requires { p + n ≤ length image.old }
     ensures { image.new ≡ paste image.old p (replicate n b) n }
 {
-    let mut j: usize = 0;
-    while j < n {
-        image[p + j] = b;
-        j += 1;
-    }
+    image[p..p + n].fill(b);
 }
 
 // A number of two bytes, and one of four.
@@ -31,7 +27,7 @@ pub(crate) fn two_at(image: &[u8], p: usize) -> usize
     requires { p + 2 ≤ length image.now }
     ensures { result ≡ number 2 p image.now }
 {
-    numbers::two(image[p], image[p + 1]) as usize
+    usize::from(numbers::two(image[p], image[p + 1]))
 }
 
 pub(crate) fn four_at(image: &[u8; IMAGE], p: usize) -> u32

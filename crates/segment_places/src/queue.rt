@@ -6,34 +6,37 @@ ghost use Rattle.segment_image.specs.Image.{decode_image};
 ghost use Rattle.segment_places.specs.ProgramBecomes.{Becomes, Queues, HandsOut};
 
 use crate::{head, place};
-use laws::least;
 use segment::QUEUE;
 use segment_image::{IMAGE, QUEUE_AT, QUEUED_AT};
 
+// The queue would be too long.
+#[derive(Clone, Copy, PartialEq, Eq, Debug)]
+pub struct QueueFull;
+
 // Some bytes behind those queued, if there is room for them.
-pub fn append(image: &mut [u8; IMAGE], more: &[u8]) -> bool
+pub fn append(image: &mut [u8; IMAGE], more: &[u8]) -> Result<(), QueueFull>
     ensures { Queues more.now image.old result image.new }
 {
     let queued = head::queued_of(image);
     if QUEUE - queued < more.len() {
-        return false;
+        return Err(QueueFull);
     }
     place::put(image, QUEUE_AT + queued, more);
     place::put_two(image, QUEUED_AT, queued + more.len());
-    true
+    Ok(())
 }
 
 // n times the byte b behind those queued, if there is room for them.
-pub fn append_same(image: &mut [u8; IMAGE], n: usize, b: u8) -> bool
+pub fn append_same(image: &mut [u8; IMAGE], n: usize, b: u8) -> Result<(), QueueFull>
     ensures { Queues (replicate n b) image.old result image.new }
 {
     let queued = head::queued_of(image);
     if QUEUE - queued < n {
-        return false;
+        return Err(QueueFull);
     }
     place::fill(image, QUEUE_AT + queued, n, b);
     place::put_two(image, QUEUED_AT, queued + n);
-    true
+    Ok(())
 }
 
 // All that is queued is gone.
@@ -50,11 +53,7 @@ fn shift(image: &mut [u8], n: usize, m: usize)
     requires { 278 + n + m ≤ length image.old }
     ensures { image.new ≡ paste image.old 278 (drop (278 + n) image.old) m }
 {
-    let mut j: usize = 0;
-    while j < m {
-        image[QUEUE_AT + j] = image[QUEUE_AT + n + j];
-        j += 1;
-    }
+    image.copy_within(QUEUE_AT + n..QUEUE_AT + n + m, QUEUE_AT);
 }
 
 fn shorten(image: &mut [u8; IMAGE], n: usize, queued: usize)
@@ -72,7 +71,7 @@ pub fn take_out(image: &mut [u8; IMAGE], n: usize)
     ensures { Becomes image.old (with_queue (drop n (decode_image image.old).queue) (decode_image image.old)) image.new }
 {
     let queued = head::queued_of(image);
-    shorten(image, least(n, queued), queued)
+    shorten(image, n.min(queued), queued)
 }
 
 fn copy_out(image: &[u8; IMAGE], n: usize, lent: &mut [u8])
@@ -87,7 +86,7 @@ fn copy_out(image: &[u8; IMAGE], n: usize, lent: &mut [u8])
 pub fn hand_out(image: &[u8; IMAGE], most: usize, lent: &mut [u8]) -> usize
     ensures { HandsOut most (decode_image image.now).queue lent.old result lent.new }
 {
-    let n = least(most, least(lent.len(), head::queued_of(image)));
+    let n = most.min(lent.len()).min(head::queued_of(image));
     copy_out(image, n, lent);
     n
 }

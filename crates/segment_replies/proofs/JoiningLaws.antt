@@ -1,6 +1,6 @@
 -- What the program keeps of the replies: none yet, one more, and that all come to `joined`.
 use Rattle.std.specs.Prelude.{if◌then◌else◌}
-use Rattle.std.proofs.Common.{◌≡◌, ℕ, zero, suc, ◌+◌, ◌%◌, ◌^◌, ◌<◌, min, max, Bool, true, false, ◌&&◌, ltb, List, [], ◌∷◌, ◌++◌, length, get_or, take, set, replicate, sym, refl, ap, ◌∙◌, subst, ap₂, append-nil, arith, length-append, length-take, length-take-le, get_or-take, ext_get_or, ltb-false, ltb-true, eqb-true}
+use Rattle.std.proofs.Common.{◌≡◌, ℕ, zero, suc, ◌+◌, ◌%◌, ◌^◌, ◌<◌, min, max, Bool, true, false, ◌&&◌, ltb, List, [], ◌∷◌, ◌++◌, length, get_or, take, replicate, sym, refl, ap, ◌∙◌, subst, ap₂, append-nil, arith, length-append, length-take, length-take-le, get_or-take, ext_get_or, ltb-false, ltb-true, eqb-true}
 use mathlib.Core.Bool.{and-true}
 use lib.Bits.{bit_and}
 use lib.ListN.{get_or-replicate, length-replicate, get_or-eq_default}
@@ -23,7 +23,7 @@ small_at [] i h = omega arith
 small_at (b ∷ l) zero h = h.0
 small_at (b ∷ l) (suc i) h = small_at l i h.1
 
-pub joins_none : Joins [] (record { count = 0; acks = true; len = 0 }) (replicate reply_most 0xFF)
+pub joins_none : Joins [] (record { bytes = replicate reply_most 0xFF; count = 0; acks = true; len = 0 })
 joins_none =
     record {
       count = refl;
@@ -39,23 +39,23 @@ joins_none =
 pub count_more : (n : ℕ) → n < 4096 → (n + 1) % 2 ^ 64 ≡ n + 1
 count_more n h = omega arith
 
-module _ {rs : List (List ℕ)} {j : Joining} {old new bytes : List ℕ} where
+module _ {rs : List (List ℕ)} {j k : Joining} {bytes : List ℕ} where
   -- a reply, laid over those before it
-  pub joins_more : (n : ℕ) {len : ℕ} {a : Bool} {k : Joining} → Joins rs j old → length bytes ≡ reply_most → Bytes bytes → len ≡ min n reply_most → a ≡ is_e5 (take n bytes) → Overlays old bytes len new
-      → k ≡ record { count = j.count + 1; acks = j.acks && a; len = max j.len len } → Joins (rs ++ take n bytes ∷ []) k new
-  joins_more n {len} {a} {k} s room small e ack o is =
+  pub joins_more : (n : ℕ) {len : ℕ} {a : Bool} → Joins rs j → length bytes ≡ reply_most → Bytes bytes → len ≡ min n reply_most → a ≡ is_e5 (take n bytes) → Overlays j.bytes bytes len k.bytes
+      → k.count ≡ j.count + 1 → k.acks ≡ (j.acks && a) → k.len ≡ max j.len len → Joins (rs ++ take n bytes ∷ []) k
+  joins_more n {len} {a} s room small e ack o count acks long =
       let l : length (take n bytes) ≡ len = omega (arith, length-take n bytes) in
       record {
-        count = ap (λ x. x.count) is ∙ omega (arith, s.count, length-append rs (take n bytes ∷ []));
-        acks = ap (λ x. x.acks) is ∙ ap₂ (λ x y. x && y) s.acks ack ∙ sym (all_e5_more rs (take n bytes));
-        len = ap (λ x. x.len) is ∙ omega (arith, s.len, longest_more rs (take n bytes));
-        fits = omega (arith, s.fits, ap (λ x. x.len) is);
+        count = omega (arith, count, s.count, length-append rs (take n bytes ∷ []));
+        acks = acks ∙ ap₂ (λ x y. x && y) s.acks ack ∙ sym (all_e5_more rs (take n bytes));
+        len = omega (arith, long, s.len, longest_more rs (take n bytes));
+        fits = omega (arith, s.fits, long);
         room = o.room ∙ s.room;
         small = every_append Bytes rs (take n bytes ∷ []) s.small (every_take (λ b. b < 256) n bytes small, tt);
         and = λ i h. go i h (ltb i len) refl ∙ sym (overlaid_more rs (take n bytes) i);
       }
     where
-      go : (i : ℕ) → i < reply_most → (b : Bool) → ltb i len ≡ b → get_or new i 0xFF ≡ bit_and (overlaid rs i) (get_or (take n bytes) i 0xFF)
+      go : (i : ℕ) → i < reply_most → (b : Bool) → ltb i len ≡ b → get_or k.bytes i 0xFF ≡ bit_and (overlaid rs i) (get_or (take n bytes) i 0xFF)
       go i h true b =
           let f = ltb-true i len b in
           o.done i f ∙ ap₂ bit_and (s.and i h) (sym (get_or-take n bytes i 0xFF (omega arith)))
@@ -80,13 +80,13 @@ get_d_places f i (suc n) zero d h = ap f (omega arith)
 get_d_places f i (suc n) (suc k) d h = get_d_places f (suc i) n k d (omega arith) ∙ ap f (omega arith)
 
 -- the bytes kept are those of all the replies, overlaid
-places_kept : (rs : List (List ℕ)) (j : Joining) (bytes : List ℕ) → Joins rs j bytes → places (overlaid rs) 0 (longest rs) ≡ take j.len bytes
-places_kept rs j bytes s =
-    let l : length (take j.len bytes) ≡ j.len = length-take-le j.len bytes (omega (arith, s.fits, s.room)) in
+places_kept : (rs : List (List ℕ)) (j : Joining) → Joins rs j → places (overlaid rs) 0 (longest rs) ≡ take j.len j.bytes
+places_kept rs j s =
+    let l : length (take j.len j.bytes) ≡ j.len = length-take-le j.len j.bytes (omega (arith, s.fits, s.room)) in
     let p = length-places (overlaid rs) 0 (longest rs) in
     let e = s.len in
-    ext_get_or 0xFF (places (overlaid rs) 0 (longest rs)) (take j.len bytes) (omega arith)
-    (λ i h. let q = s.fits in get_d_places (overlaid rs) 0 (longest rs) i 0xFF (omega arith) ∙ ap (overlaid rs) (omega arith) ∙ sym (get_or-take j.len bytes i 0xFF (omega arith) ∙ s.and i (omega arith)))
+    ext_get_or 0xFF (places (overlaid rs) 0 (longest rs)) (take j.len j.bytes) (omega arith)
+    (λ i h. let q = s.fits in get_d_places (overlaid rs) 0 (longest rs) i 0xFF (omega arith) ∙ ap (overlaid rs) (omega arith) ∙ sym (get_or-take j.len j.bytes i 0xFF (omega arith) ∙ s.and i (omega arith)))
 
 -- a lone reply is overlaid by nothing
 places_one : (r : List ℕ) → Bytes r → places (overlaid (r ∷ [])) 0 (length r) ≡ r
@@ -110,9 +110,9 @@ joined_as (r ∷ q ∷ rs) h = go (all_e5 (r ∷ q ∷ rs)) refl
     go true e = ends_acks (r ∷ q ∷ rs) e
     go false e = refl
 
-module _ {rs : List (List ℕ)} {j : Joining} {bytes : List ℕ} where
-  pub joined_is : Joins rs j bytes → joined rs ≡ bytes_kept j bytes
-  joined_is s = joined_as rs s.small ∙ rw (s.acks, s.count, sym (places_kept rs j bytes s))
+module _ {rs : List (List ℕ)} {j : Joining} where
+  pub joined_is : Joins rs j → joined rs ≡ bytes_kept j
+  joined_is s = joined_as rs s.small ∙ rw (s.acks, s.count, sym (places_kept rs j s))
 
 -- one E5 more
 small_none : (n i : ℕ) → get_or (replicate n 0) i 0 < 256
@@ -120,43 +120,34 @@ small_none zero i = omega arith
 small_none (suc n) zero = omega arith
 small_none (suc n) (suc i) = small_none n i
 
-module _ {rs : List (List ℕ)} {j : Joining} {old : List ℕ} where
-  pub joins_ack : {v c n : ℕ} → Joins rs j old → v ≡ bit_and (get_or old 0 0) 0xE5 → c ≡ j.count + 1 → n ≡ max j.len 1
-      → Joins (rs ++ E5 ∷ []) (record { count = c; acks = j.acks; len = n }) (set old 0 v)
-  joins_ack {v} {c} {n} s e more l =
+-- what the two ways to join give
+module _ {rs : List (List ℕ)} {j r : Joining} (few : j.count < 4096) (s : Joins rs j) where
+  pub joins_acked : JoinsAck j r → Joins (rs ++ E5 ∷ []) r
+  joins_acked o =
       let ack : List ℕ = 0xE5 ∷ replicate 95 0 in
       joins_more {bytes = ack} 1 {len = 1} {a = true} s (ap suc (length-replicate {A = ℕ} 95 0)) (omega arith, small_all (replicate 95 0) (λ i. small_none 95 i)) refl refl
-      (overlays_more overlays_none (omega (arith, s.room)) (omega arith) e)
-      (rw more (ap₂ (λ a b. record { count = j.count + 1; acks = a; len = b }) (sym (and-true j.acks)) l))
+      (subst (Overlays j.bytes ack 1) (sym o.bytes) (overlays_more overlays_none (omega (arith, s.room)) (omega arith) refl))
+      (o.count ∙ count_more j.count few) (o.acks ∙ sym (and-true j.acks)) o.len
 
--- what the two ways to join give
-module _ {rs : List (List ℕ)} {j r : Joining} {old new : List ℕ} (few : j.count < 4096) (s : Joins rs j old) where
-  pub joins_acked : JoinsAck j old r new → Joins (rs ++ E5 ∷ []) r new
-  joins_acked o =
-      subst (λ x. Joins (rs ++ E5 ∷ []) x new) (sym o.kept)
-      (subst (λ x. Joins (rs ++ E5 ∷ []) (record { count = (j.count + 1) % 2 ^ 64; acks = j.acks; len = max j.len 1 }) x) (sym o.bytes) (joins_ack s refl (count_more j.count few) refl))
-
-  pub joins_replied : {reply : Reply} → JoinsReply j reply old r new → Joins (rs ++ take reply.len reply.bytes ∷ []) r new
-  joins_replied {reply} o =
-      joins_more reply.len s o.array.0 o.array.1 refl refl (o.bytes s.room)
-      (o.kept ∙ ap (λ k. record { count = k; acks = j.acks && is_e5 (take reply.len reply.bytes); len = max j.len (min reply.len reply_most) }) (count_more j.count few))
+  pub joins_replied : {reply : Reply} → JoinsReply j reply r → Joins (rs ++ take reply.len reply.bytes ∷ []) r
+  joins_replied {reply} o = joins_more reply.len s o.array.0 o.array.1 refl refl (o.bytes s.room) (o.count ∙ count_more j.count few) o.acks o.len
 
 -- the replies that are added, said otherwise; and none
-module _ {j : Joining} {bytes : List ℕ} (rs : List (List ℕ)) where
-  pub joins_as : {xs ys : List (List ℕ)} → xs ≡ ys → Joins (rs ++ xs) j bytes → Joins (rs ++ ys) j bytes
-  joins_as e s = subst (λ x. Joins (rs ++ x) j bytes) e s
+module _ {j : Joining} (rs : List (List ℕ)) where
+  pub joins_as : {xs ys : List (List ℕ)} → xs ≡ ys → Joins (rs ++ xs) j → Joins (rs ++ ys) j
+  joins_as e s = subst (λ x. Joins (rs ++ x) j) e s
 
-  pub joins_still : Joins rs j bytes → Joins (rs ++ []) j bytes
-  joins_still s = subst (λ x. Joins x j bytes) (sym (append-nil rs)) s
+  pub joins_still : Joins rs j → Joins (rs ++ []) j
+  joins_still s = subst (λ x. Joins x j) (sym (append-nil rs)) s
 
 -- how long the joined reply is
 abbrev pub length_kept : Joining → ℕ
 length_kept j = if j.acks then j.count else j.len
 
-module _ {rs : List (List ℕ)} {j : Joining} {bytes : List ℕ} where
-  pub length_kept_lem : Joins rs j bytes → length (bytes_kept j bytes) ≡ length_kept j
+module _ {rs : List (List ℕ)} {j : Joining} where
+  pub length_kept_lem : Joins rs j → length (bytes_kept j) ≡ length_kept j
   length_kept_lem s = go j.acks
     where
-      go : (b : Bool) → length (if b then replicate j.count 0xE5 else take j.len bytes) ≡ (if b then j.count else j.len)
+      go : (b : Bool) → length (if b then replicate j.count 0xE5 else take j.len j.bytes) ≡ (if b then j.count else j.len)
       go true = length-replicate j.count 0xE5
-      go false = length-take-le j.len bytes (omega (arith, s.fits, s.room))
+      go false = length-take-le j.len j.bytes (omega (arith, s.fits, s.room))

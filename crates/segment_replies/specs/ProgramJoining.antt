@@ -12,18 +12,18 @@ abbrev pub reply_most : ℕ
 reply_most = 96
 
 -- how many replies, whether all are E5, the longest, and their bytewise AND, filled with FF
-pub record Joins (rs : List (List ℕ)) (j : Joining) (bytes : List ℕ) : Type 0 where
+pub record Joins (rs : List (List ℕ)) (j : Joining) : Type 0 where
   pub count : j.count ≡ length rs
   pub acks : j.acks ≡ all_e5 rs
   pub len : j.len ≡ longest rs
   pub fits : j.len ≤ reply_most
-  pub room : length bytes ≡ reply_most
+  pub room : length j.bytes ≡ reply_most
   pub small : Every Bytes rs
-  pub and : (i : ℕ) → i < reply_most → slice_index_or bytes i 0xFF ≡ overlaid rs i
+  pub and : (i : ℕ) → i < reply_most → slice_index_or j.bytes i 0xFF ≡ overlaid rs i
 
 -- the bytes of the joined reply: all E5, end to end; else the AND
-abbrev pub bytes_kept : Joining → List ℕ → List ℕ
-bytes_kept j bytes = if j.acks then replicate j.count ack_byte else take j.len bytes
+abbrev pub bytes_kept : Joining → List ℕ
+bytes_kept j = if j.acks then replicate j.count ack_byte else take j.len j.bytes
 
 -- the bytes of new up to a place are those of old and of a reply joined by AND, the others those of old
 pub record Overlays (old reply : List ℕ) (i : ℕ) (new : List ℕ) : Type 0 where
@@ -33,13 +33,17 @@ pub record Overlays (old reply : List ℕ) (i : ℕ) (new : List ℕ) : Type 0 w
 
 -- what is kept after one reply more, an E5: the count is a number of 64 bits, and the byte in front is joined with E5
 -- by AND
-pub record JoinsAck (j : Joining) (old : List ℕ) (r : Joining) (new : List ℕ) : Type 0 where
-  pub kept : r ≡ record { count = (j.count + 1) % 2 ^ 64; acks = j.acks; len = max j.len 1 }
-  pub bytes : new ≡ slice_set old 0 (bit_and (slice_index old 0) ack_byte)
+pub record JoinsAck (j r : Joining) : Type 0 where
+  pub count : r.count ≡ (j.count + 1) % 2 ^ 64
+  pub acks : r.acks ≡ j.acks
+  pub len : r.len ≡ max j.len 1
+  pub bytes : r.bytes ≡ slice_set j.bytes 0 (bit_and (slice_index j.bytes 0) ack_byte)
 
--- what is kept after one reply more, any bytes. old and the reply's bytes are arrays, whose types say how long they
--- are and that they hold bytes.
-pub record JoinsReply (j : Joining) (reply : Reply) (old : List ℕ) (r : Joining) (new : List ℕ) : Type 0 where
-  pub kept : r ≡ record { count = (j.count + 1) % 2 ^ 64; acks = j.acks && is_e5 (take reply.len reply.bytes); len = max j.len (min reply.len reply_most) }
-  pub bytes : length old ≡ reply_most → Overlays old reply.bytes (min reply.len reply_most) new
+-- what is kept after one reply more, any bytes. The bytes of both are arrays, whose types say how long they are and
+-- that they hold bytes.
+pub record JoinsReply (j : Joining) (reply : Reply) (r : Joining) : Type 0 where
+  pub count : r.count ≡ (j.count + 1) % 2 ^ 64
+  pub acks : r.acks ≡ (j.acks && is_e5 (take reply.len reply.bytes))
+  pub len : r.len ≡ max j.len (min reply.len reply_most)
+  pub bytes : length j.bytes ≡ reply_most → Overlays j.bytes reply.bytes (min reply.len reply_most) r.bytes
   pub array : (length reply.bytes ≡ reply_most) × Bytes reply.bytes

@@ -1,6 +1,6 @@
 -- The loop over the telegrams on an image: what is left from here is the whole. Its turns, and its ways out.
 use mathlib.Core.Path.{◌≡◌, refl, sym, ap, ◌∙◌}
-use mathlib.Core.Bool.{Bool, true, false}
+use Rattle.std.specs.Prelude.{Result, Ok, Err}
 use mathlib.Core.List.{List, [], ◌++◌}
 use Prim.Native.Nat.{ℕ, ◌+◌, ◌*◌, ◌/◌, ◌≤◌, ◌<◌}
 use native.Mathlib.Omega.{arith}
@@ -12,12 +12,13 @@ use Rattle.frame.specs.declared.Frame.{Frame}
 use Rattle.frame.specs.declared.Why as declared-why
 use Rattle.frame.specs.declared.ParseOutcome.{ParseOutcome}
 use Rattle.frame.specs.declared.ParseOutcome.TheVariants.{Complete, Incomplete, Invalid}
-use Rattle.frame.specs.View.{telegram_of, data_at, why_of, parsed_of}
+use Rattle.frame.specs.View.{telegram_of, why_of, parsed_of}
 use Rattle.frame.proofs.RoundTrip.{parse_back}
 use Rattle.time_clock.specs.declared.Clock.{Clock}
 use Rattle.segment.specs.Plain.{Plain, with_input}
 use Rattle.segment_replies.specs.Replies.{joined}
 use Rattle.segment_image.specs.Image.{decode_image}
+use Rattle.segment_places.specs.declared.queue.QueueFull.{QueueFull}
 use Rattle.segment_places.specs.ProgramBecomes.{Becomes}
 use Rattle.segment_places.proofs.Becoming.{becomes_same, becomes_as, becomes_then}
 use Rattle.segment_telegram.specs.Handled.{replies, to_broadcast_value, heard_by, handled}
@@ -38,10 +39,6 @@ handled_all_grows : (k : Clock) (s : Plain) → length s.queue ≤ length (handl
 unfolding handled_all
 handled_all_grows k s =
     steps_keeps (λ u. length s.queue ≤ length u.queue) (λ t k rest u h. let g = handled_grows t k rest u in omega arith) (λ u h. h) (length s.input) k s (omega arith)
-
--- two answers are never one
-never : {A : Type 0} {b : Bool} → b ≡ true → b ≡ false → A
-never e f = let z : ◌≡◌ {A = ℕ} 0 1 = cc in absurd (omega arith)
 
 -- ---- the loop
 
@@ -74,68 +71,69 @@ module _ {k : Clock} {bytes old : List ℕ} where
           ∙ sym (handled_all_complete k (with_input (drop pos bytes) now) t used e)
           ∙ l.is
 
-      pub left_more : {r : Bool} {new : List ℕ} → Comes next (may_reply t) mid r new → r ≡ true → Left k bytes old (pos + used) new
-      left_more {r} {new} c d =
-          let b = c.done d in
+      pub left_more : {new : List ℕ} → Comes next (may_reply t) mid (Ok tt) new → Left k bytes old (pos + used) new
+      left_more {new} c =
+          let b = c.done in
           record {
             is = ap (λ x. handled_all k (with_input (drop (pos + used) bytes) x)) b.means ∙ taken;
             becomes = becomes_as (sym b.means) (becomes_then l.becomes b);
-            grown = omega (arith, c.grows d, ap (λ p. length p.queue) b.means, l.grown);
+            grown = omega (arith, c.grows, ap (λ p. length p.queue) b.means, l.grown);
           }
 
       -- the queue is too long already
-      pub left_full : {r : Bool} {new : List ℕ} → Comes next (may_reply t) mid r new → r ≡ false → pos + used ≤ length bytes → Comes (all k bytes old) (length bytes / 5) old false new
-      left_full c d h =
+      pub left_full : {why : QueueFull} {new : List ℕ} → Comes next (may_reply t) mid (Err why) new → pos + used ≤ length bytes → Comes (all k bytes old) (length bytes / 5) old (Err why) new
+      left_full c h =
           let more = handled_all_grows k (with_input (drop (pos + used) bytes) next) in
           record {
-            done = λ x. never x refl;
-            full = λ x. omega (arith, c.full d, more, ap (λ p. length p.queue) taken);
-            bound = λ x. omega (arith, c.bound d, l.grown);
-            grows = λ x. never x refl;
+            done = tt;
+            full = omega (arith, c.full, more, ap (λ p. length p.queue) taken);
+            bound = omega (arith, c.bound, l.grown);
+            grows = tt;
           }
 
-    ends : {p : Plain} {new : List ℕ} → pos ≤ length bytes → all k bytes old ≡ p → length p.queue ≡ length now.queue → Becomes mid p new → Comes (all k bytes old) (length bytes / 5) old true new
+    ends : {p : Plain} {new : List ℕ} → pos ≤ length bytes → all k bytes old ≡ p → length p.queue ≡ length now.queue → Becomes mid p new → Comes (all k bytes old) (length bytes / 5) old (Ok tt) new
     ends h e q b =
         record {
-          done = λ x. becomes_as (sym e) (becomes_then l.becomes b);
-          full = λ x. never refl x;
-          bound = λ x. never refl x;
-          grows = λ x. omega (arith, ap (λ p. length p.queue) e, q, l.grown);
+          done = becomes_as (sym e) (becomes_then l.becomes b);
+          full = tt;
+          bound = tt;
+          grows = omega (arith, ap (λ p. length p.queue) e, q, l.grown);
         }
 
     -- what is left waits
-    pub left_waits : {new : List ℕ} {m : ℕ} → pos ≤ length bytes → parse (drop pos bytes) ≡ incomplete m → Becomes mid (with_input (drop pos bytes) now) new → Comes (all k bytes old) (length bytes / 5) old true new
+    pub left_waits : {new : List ℕ} {m : ℕ} → pos ≤ length bytes → parse (drop pos bytes) ≡ incomplete m → Becomes mid (with_input (drop pos bytes) now) new → Comes (all k bytes old) (length bytes / 5) old (Ok tt) new
     left_waits h e b = ends h (sym l.is ∙ handled_all_incomplete k (with_input (drop pos bytes) now) e) refl b
 
     -- all remaining input is discarded
-    pub left_drops : {new : List ℕ} (why : Why) → pos ≤ length bytes → parse (drop pos bytes) ≡ invalid why → Becomes mid (with_input [] now) new → Comes (all k bytes old) (length bytes / 5) old true new
+    pub left_drops : {new : List ℕ} (why : Why) → pos ≤ length bytes → parse (drop pos bytes) ≡ invalid why → Becomes mid (with_input [] now) new → Comes (all k bytes old) (length bytes / 5) old (Ok tt) new
     left_drops why h e b = ends h (sym l.is ∙ handled_all_invalid k (with_input (drop pos bytes) now) why e) refl b
 
 -- ---- or every byte stays
 
-module _ {s : Plain} {n : ℕ} {old new : List ℕ} {r : Bool} (c : Comes s n old r new) where
-  pub comes_done : r ≡ true → ComesOrStays s old true new
-  comes_done e = record { done = λ x. c.done e; full = λ x. never refl x; stays = λ x. never refl x }
+module _ {s : Plain} {n : ℕ} {old new : List ℕ} where
+  pub comes_done : Comes s n old (Ok tt) new → ComesOrStays s old (Ok tt) new
+  comes_done c = record { done = c.done; full = tt; stays = tt }
 
   -- put back
-  pub comes_back : r ≡ false → ComesOrStays s old false old
-  comes_back e = record { done = λ x. never x refl; full = λ x. c.full e; stays = λ x. refl }
+  pub comes_back : {why : QueueFull} → Comes s n old (Err why) new → ComesOrStays s old (Err why) old
+  comes_back c = record { done = tt; full = c.full; stays = refl }
 
   -- there is room
-  pub comes_surely : length (decode_image old).queue + 96 * n ≤ 4096 → ComesOrStays s old r new
-  comes_surely h = record { done = c.done; full = c.full; stays = λ x. absurd (omega (arith, c.bound x)) }
+  pub comes_surely : (r : Result (Unit {0}) QueueFull) → Comes s n old r new → length (decode_image old).queue + 96 * n ≤ 4096 → ComesOrStays s old r new
+  comes_surely (Ok done) c h = record { done = c.done; full = tt; stays = tt }
+  comes_surely (Err why) c h = let b = c.bound in absurd (omega arith)
 
 -- ---- what parsing said of the bytes from pos on
 
-module _ {rest bs : List ℕ} {o : ParseOutcome} (r : rest ≡ bs) (e : parsed_of rest o ≡ parse rest) where
-  pub parsed_complete : {frame : Frame} {len used : ℕ} {d : List ℕ} → o ≡ Complete frame len used → d ≡ data_at rest len → parse bs ≡ complete (telegram_of frame d) used
-  parsed_complete {frame} {len} {used} {d} is f = ap parse (sym r) ∙ sym e ∙ ap (parsed_of rest) is ∙ ap (λ x. complete (telegram_of frame x) used) (sym f)
+module _ {rest bs : List ℕ} {o : ParseOutcome} (r : rest ≡ bs) (e : parsed_of o ≡ parse rest) where
+  pub parsed_complete : {frame : Frame} {used : ℕ} → o ≡ Complete frame used → parse bs ≡ complete (telegram_of frame) used
+  parsed_complete is = ap parse (sym r) ∙ sym e ∙ ap parsed_of is
 
   pub parsed_incomplete : {m : ℕ} → o ≡ Incomplete m → parse bs ≡ incomplete m
-  parsed_incomplete is = ap parse (sym r) ∙ sym e ∙ ap (parsed_of rest) is
+  parsed_incomplete is = ap parse (sym r) ∙ sym e ∙ ap parsed_of is
 
   pub parsed_invalid : {why : declared-why.Why} → o ≡ Invalid why → parse bs ≡ invalid (why_of why)
-  parsed_invalid is = ap parse (sym r) ∙ sym e ∙ ap (parsed_of rest) is
+  parsed_invalid is = ap parse (sym r) ∙ sym e ∙ ap parsed_of is
 
 -- a telegram uses some of the bytes, and no more than there are
 pub used_within : (bs : List ℕ) (t : Telegram) (n : ℕ) → parse bs ≡ complete t n → (0 < n) × (n ≤ length bs)

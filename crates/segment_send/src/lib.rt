@@ -8,47 +8,63 @@ ghost use Rattle.segment_image.specs.Image.{decode_image};
 ghost use Rattle.segment_send.specs.Steps.{handled_all};
 ghost use Rattle.segment_send.specs.Send.{send};
 ghost use Rattle.segment_send.specs.ProgramSend.{ComesOrStays};
-ghost use Rattle.segment_send.specs.View.{sending_number_value, sending_due_value, SentImage};
+ghost use Rattle.segment_send.specs.declared.SendError.TheVariants as variants;
+ghost use Rattle.segment_send.specs.View.{send_error_number, sending_number_value, sending_due_value, SentImage};
 
 use frame::ParseOutcome;
 use laws::refused;
 use segment_image::IMAGE;
 use segment_places::input::PIECE;
+use segment_places::queue::QueueFull;
 use segment_places::{head, input};
 use time_clock::{Clock, good_clock};
 
 mod telegrams; // telegrams.rt: telegrams, one after the other
 
-// What send answers: accepted, and how many bytes are due of what waits; 13, 14 and 15 of the places of refusal.
-#[derive(Clone, Copy)]
-pub enum Sending {
-    Accepted { due: u16 },
+// Why a send is refused: 13, 14 and 15 of the places of refusal.
+#[derive(Clone, Copy, PartialEq, Eq, Debug)]
+pub enum SendError {
     PieceTooLong,
     ClockOutOfRange,
     QueueFull,
 }
 
-pub fn sending_number(answer: Sending) -> u32
+impl SendError {
+    // Its number of the places of refusal.
+    pub fn number(self) -> u32
+        ensures { result ≡ send_error_number self }
+    {
+        match self {
+            SendError::PieceTooLong => refused::PIECE,
+            SendError::ClockOutOfRange => refused::CLOCK,
+            SendError::QueueFull => refused::QUEUE,
+        }
+    }
+}
+
+impl From<QueueFull> for SendError {
+    ghost from_gives = { λ _ e. e ≡ variants.QueueFull };
+
+    fn from(_full: QueueFull) -> Self {
+        Self::QueueFull
+    }
+}
+
+// The number of what send answered, as C is told it.
+pub fn sending_number(answer: Result<u16, SendError>) -> u32
     ensures { result ≡ sending_number_value answer }
 {
     match answer {
-        Sending::Accepted { due: _ } => refused::NOT_REFUSED,
-        Sending::PieceTooLong => refused::PIECE,
-        Sending::ClockOutOfRange => refused::CLOCK,
-        Sending::QueueFull => refused::QUEUE,
+        Ok(_) => refused::NOT_REFUSED,
+        Err(refusal) => refusal.number(),
     }
 }
 
 // How many bytes are due; of a refused send none.
-pub fn sending_due(answer: Sending) -> u16
+pub fn sending_due(answer: Result<u16, SendError>) -> u16
     ensures { result ≡ sending_due_value answer }
 {
-    match answer {
-        Sending::Accepted { due } => due,
-        Sending::PieceTooLong => 0,
-        Sending::ClockOutOfRange => 0,
-        Sending::QueueFull => 0,
-    }
+    answer.unwrap_or(0)
 }
 
 // How many bytes are due of an incomplete telegram.
@@ -56,18 +72,14 @@ fn due_of(bytes: &[u8]) -> u16
     ensures { result ≡ due (parse bytes.now) }
 {
     match frame::parse(bytes) {
-        ParseOutcome::Complete {
-            frame: _,
-            len: _,
-            used: _,
-        } => 0,
+        ParseOutcome::Complete { .. } => 0,
         ParseOutcome::Incomplete { due } => due,
         ParseOutcome::Invalid(_) => 0,
     }
 }
 
 // The piece joins what waits, and all of it is handled.
-fn handle_joined(image: &mut [u8; IMAGE], piece: &[u8], clock: Clock) -> bool
+fn handle_joined(image: &mut [u8; IMAGE], piece: &[u8], clock: Clock) -> Result<(), QueueFull>
     requires { length piece.now ≤ 1024 }
     ensures { ComesOrStays (handled_all clock (with_input ((decode_image image.old).input ++ piece.now) (decode_image image.old))) image.old result image.new }
 {
@@ -77,7 +89,7 @@ fn handle_joined(image: &mut [u8; IMAGE], piece: &[u8], clock: Clock) -> bool
 }
 
 // Where nothing waits the piece is all there is.
-fn handle_piece(image: &mut [u8; IMAGE], piece: &[u8], clock: Clock) -> bool
+fn handle_piece(image: &mut [u8; IMAGE], piece: &[u8], clock: Clock) -> Result<(), QueueFull>
     requires { length piece.now ≤ 1024 }
     ensures { ComesOrStays (handled_all clock (with_input ((decode_image image.old).input ++ piece.now) (decode_image image.old))) image.old result image.new }
 {
@@ -87,19 +99,18 @@ fn handle_piece(image: &mut [u8; IMAGE], piece: &[u8], clock: Clock) -> bool
     handle_joined(image, piece, clock)
 }
 
-// The piece joins the waiting input, and complete telegrams are handled in turn. A refused send changes no byte.
-pub fn send(image: &mut [u8; IMAGE], piece: &[u8], clock: Clock) -> Sending
+// The piece joins the waiting input, and complete telegrams are handled in turn; how many bytes are due of what waits. A
+// refused send changes no byte.
+pub fn send(image: &mut [u8; IMAGE], piece: &[u8], clock: Clock) -> Result<u16, SendError>
     ensures { SentImage (send piece.now clock (decode_image image.old)) (sending_number_value result) (sending_due_value result) image.old image.new }
 {
     if PIECE < piece.len() {
-        return Sending::PieceTooLong;
+        return Err(SendError::PieceTooLong);
     }
     if !good_clock(clock) {
-        return Sending::ClockOutOfRange;
+        return Err(SendError::ClockOutOfRange);
     }
-    if !handle_piece(image, piece, clock) {
-        return Sending::QueueFull;
-    }
+    handle_piece(image, piece, clock)?;
     let waits = input::waiting(image);
-    Sending::Accepted { due: due_of(waits) }
+    Ok(due_of(waits))
 }

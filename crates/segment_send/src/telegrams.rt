@@ -9,6 +9,7 @@ ghost use Rattle.segment_send.specs.ProgramSend.{ComesOrStays};
 use frame::ParseOutcome;
 use segment::QUEUE;
 use segment_image::IMAGE;
+use segment_places::queue::QueueFull;
 use segment_places::{head, input};
 use segment_replies::REPLY;
 use segment_telegram::handle;
@@ -18,48 +19,49 @@ use time_clock::Clock;
 const SHORTEST: usize = 5;
 
 // Telegrams in turn. An incomplete one waits, an invalid one discards all remaining input. Where the queue would be
-// too long, what was done
-// until then is left as it is.
-fn handle_in_turn(image: &mut [u8; IMAGE], bytes: &[u8], clock: Clock) -> bool
+// too long, what was done until then is left as it is.
+// A loop over a position: how far it goes on, and whether, only parsing tells.
+fn handle_in_turn(image: &mut [u8; IMAGE], bytes: &[u8], clock: Clock) -> Result<(), QueueFull>
     ensures { Comes (handled_all clock (with_input bytes.now (decode_image image.old))) (length bytes.now / 5) image.old result image.new }
 {
     let mut pos: usize = 0;
     loop {
         let rest = &bytes[pos..];
         match frame::parse(rest) {
-            ParseOutcome::Complete { frame, len, used } => {
-                let data = frame::data_of(rest, len);
-                if !handle(image, frame, data, clock) {
-                    return false;
-                }
+            ParseOutcome::Complete { frame, used } => {
+                handle(image, frame, clock)?;
                 pos += used;
             }
             ParseOutcome::Incomplete { due: _ } => {
                 input::keep(image, rest);
-                return true;
+                return Ok(());
             }
             ParseOutcome::Invalid(_) => {
                 input::discard(image);
-                return true;
+                return Ok(());
             }
         }
     }
 }
 
 // The image is kept, and put back where the queue would be too long.
-fn handle_or_undo(image: &mut [u8; IMAGE], bytes: &[u8], clock: Clock) -> bool
+fn handle_or_undo(image: &mut [u8; IMAGE], bytes: &[u8], clock: Clock) -> Result<(), QueueFull>
     ensures { ComesOrStays (handled_all clock (with_input bytes.now (decode_image image.old))) image.old result image.new }
 {
     let before = *image;
-    if handle_in_turn(image, bytes, clock) {
-        return true;
+    if let Err(full) = handle_in_turn(image, bytes, clock) {
+        *image = before;
+        return Err(full);
     }
-    *image = before;
-    false
+    Ok(())
 }
 
 // Where there is room for as many replies as there can be, nothing needs to be kept.
-pub(crate) fn handle_all(image: &mut [u8; IMAGE], bytes: &[u8], clock: Clock) -> bool
+pub(crate) fn handle_all(
+    image: &mut [u8; IMAGE],
+    bytes: &[u8],
+    clock: Clock,
+) -> Result<(), QueueFull>
     ensures { ComesOrStays (handled_all clock (with_input bytes.now (decode_image image.old))) image.old result image.new }
 {
     let queued = head::queued_of(image);

@@ -1,5 +1,5 @@
 -- A telegram handled on an image, from what the sweep and the queue came to.
-use Rattle.std.specs.Prelude.{if◌then◌else◌}
+use Rattle.std.specs.Prelude.{Result, Ok, Err, if◌then◌else◌}
 use mathlib.Core.Path.{◌≡◌, refl, sym, ap, ap₂, subst, ◌∙◌}
 use mathlib.Core.Bool.{Bool, true, false}
 use mathlib.Core.List.{List, [], ◌∷◌, ◌++◌, map}
@@ -20,6 +20,7 @@ use Rattle.segment_replies.specs.Replies.{joined}
 use Rattle.segment_replies.specs.ProgramJoining.{bytes_kept}
 use Rattle.segment_replies.proofs.JoiningLaws.{joined_is, length_kept, length_kept_lem}
 use Rattle.segment_image.specs.Image.{decode_image}
+use Rattle.segment_places.specs.declared.queue.QueueFull.{QueueFull}
 use Rattle.segment_places.specs.ProgramBecomes.{Becomes, Queues}
 use Rattle.segment_places.proofs.Becoming.{becomes_as, becomes_then}
 use Rattle.segment_places.proofs.PlaceLaws.{meters_few}
@@ -47,13 +48,9 @@ ack_unheard k s = go s.meters
     go [] = refl
     go (m ∷ ms) = ap (λ h. with_reply h.reply (replies (map (hear s.baud ack (elapsed_of_value k.now s.origin) k) ms))) (ack_quiet s.baud (elapsed_of_value k.now s.origin) k m) ∙ go ms
 
--- two answers are never one
-never : {A : Type 0} {b : Bool} → b ≡ true → b ≡ false → A
-never e f = let z : ◌≡◌ {A = ℕ} 0 1 = cc in absurd (omega arith)
-
 -- ---- a telegram
 
-module _ (t : Telegram) (k : Clock) {old mid : List ℕ} {kept : Joining} {bytes : List ℕ} (w : Sweeps t k old mid kept bytes) where
+module _ (t : Telegram) (k : Clock) {old mid : List ℕ} {kept : Joining} (w : Sweeps t k old mid kept) where
   abbrev s : Plain
   s = decode_image old
 
@@ -86,7 +83,7 @@ module _ (t : Telegram) (k : Clock) {old mid : List ℕ} {kept : Joining} {bytes
       go (short c a) e = reply_short
       go (long c a ci d) e = reply_short
 
-  pub handled_all_lem : true ≡ to_broadcast_value t → Handles t after old true mid
+  pub handled_all_lem : true ≡ to_broadcast_value t → Handles t after old (Ok tt) mid
   unfolding handled
   handled_all_lem e =
       let same : with_meters (map (λ h. h.meter) (heard_by t k s)) s ≡ after =
@@ -94,40 +91,46 @@ module _ (t : Telegram) (k : Clock) {old mid : List ℕ} {kept : Joining} {bytes
       record {
         comes =
             record {
-              done = λ x. becomes_as same w.becomes;
-              full = λ x. never refl x;
-              bound = λ x. never refl x;
-              grows = λ x. omega (arith, ap (λ p. length p.queue) same);
+              done = becomes_as same w.becomes;
+              full = tt;
+              bound = tt;
+              grows = omega (arith, ap (λ p. length p.queue) same);
             };
-        left = λ x. never refl x;
+        left = tt;
       }
 
   module _ (e : false ≡ to_broadcast_value t) where
-    after_is : after ≡ with_queue ((decode_image mid).queue ++ bytes_kept kept bytes) (decode_image mid)
+    after_is : after ≡ with_queue ((decode_image mid).queue ++ bytes_kept kept) (decode_image mid)
     unfolding handled
     after_is =
         ap (λ b. with_queue (if b then s.queue else s.queue ++ joined (replies (heard_by t k s))) (with_meters (map (λ h. h.meter) (heard_by t k s)) s)) (sym e)
         ∙ ap₂ (λ x y. with_queue (x ++ y) (with_meters (map (λ h. h.meter) (heard_by t k s)) s)) (sym same_queue) (joined_is w.joins)
-        ∙ ap (with_queue ((decode_image mid).queue ++ bytes_kept kept bytes)) (sym w.becomes.means)
+        ∙ ap (with_queue ((decode_image mid).queue ++ bytes_kept kept)) (sym w.becomes.means)
 
     after_long : length after.queue ≡ length s.queue + length_kept kept
     after_long =
         ap (λ p. length p.queue) after_is
-        ∙ length-append (decode_image mid).queue (bytes_kept kept bytes)
+        ∙ length-append (decode_image mid).queue (bytes_kept kept)
         ∙ ap₂ (λ x y. x + y) (ap length same_queue) (length_kept_lem w.joins)
 
     -- its reply joins the queue, or does not fit
-    pub handled_queues : {r : Bool} {new : List ℕ} → Queues (bytes_kept kept bytes) mid r new → Handles t after old r new
+    pub handled_queues : (r : Result (Unit {0}) QueueFull) {new : List ℕ} → Queues (bytes_kept kept) mid r new → Handles t after old r new
     unfolding handled
-    handled_queues {r} {new} q =
+    handled_queues (Ok done) q =
+        record {
+          comes = record { done = becomes_as (sym after_is) (becomes_then w.becomes q.done); full = tt; bound = tt; grows = omega (arith, after_long, reply_within) };
+          left = tt;
+        }
+    handled_queues (Err why) {new} q =
         let l = length_kept_lem w.joins in
+        let full = q.full in
         record {
           comes =
               record {
-                done = λ x. becomes_as (sym after_is) (becomes_then w.becomes (q.done x));
-                full = λ x. omega (arith, q.full x, after_long, ap length same_queue, l);
-                bound = λ x. omega (arith, q.full x, reply_within, ap length same_queue, l);
-                grows = λ x. omega (arith, after_long, reply_within);
+                done = tt;
+                full = omega (arith, full, after_long, ap length same_queue, l);
+                bound = omega (arith, full, reply_within, ap length same_queue, l);
+                grows = tt;
               };
-          left = λ x. subst (Becomes old (with_queue s.queue after)) (sym (q.stays x)) w.becomes;
+          left = subst (Becomes old (with_queue s.queue after)) (sym q.stays) w.becomes;
         }

@@ -33,19 +33,19 @@ use Rattle.segment_places.proofs.Becoming.{becomes_same, becomes_as, becomes_the
 use Rattle.segment_places.proofs.PlaceLaws.{meter-at}
 
 -- the first i meters of old heard in the way f, which gives new, and their replies are joined
-pub record Sweeping (f : PlainMeter → Heard) (old : List ℕ) (i : ℕ) (new : List ℕ) (kept : Joining) (bytes : List ℕ) : Type 0 where
+pub record Sweeping (f : PlainMeter → Heard) (old : List ℕ) (i : ℕ) (new : List ℕ) (kept : Joining) : Type 0 where
   pub becomes : Becomes old (with_meters (swept (λ p. (f p).meter) i (decode_image old).meters) (decode_image old)) new
-  pub joins : Joins (replies (map f (take i (decode_image old).meters))) kept bytes
+  pub joins : Joins (replies (map f (take i (decode_image old).meters))) kept
 
 -- a meter after it heard
 abbrev then : (PlainMeter → Heard) → PlainMeter → PlainMeter
 then f p = (f p).meter
 
 module _ {f : PlainMeter → Heard} {old : List ℕ} where
-  pub sweeping_none : {bytes : List ℕ} → bytes ≡ replicate reply_most 0xFF → Sweeping f old 0 old (record { count = 0; acks = true; len = 0 }) bytes
-  sweeping_none e = record { becomes = becomes_same; joins = subst (Joins [] (record { count = 0; acks = true; len = 0 })) (sym e) joins_none }
+  pub sweeping_none : {kept : Joining} → kept ≡ record { bytes = replicate reply_most 0xFF; count = 0; acks = true; len = 0 } → Sweeping f old 0 old kept
+  sweeping_none e = record { becomes = becomes_same; joins = subst (Joins []) (sym e) joins_none }
 
-  module _ {i : ℕ} {new : List ℕ} {kept : Joining} {bytes : List ℕ} (s : Sweeping f old i new kept bytes) where
+  module _ {i : ℕ} {new : List ℕ} {kept : Joining} (s : Sweeping f old i new kept) where
     -- fewer replies than meters
     pub sweeping_few : kept.count ≤ i
     sweeping_few = omega (arith, s.joins.count, replies_few (map f (take i (decode_image old).meters)), length-map (take i (decode_image old).meters) f, length-take i (decode_image old).meters)
@@ -67,8 +67,8 @@ module _ {f : PlainMeter → Heard} {old : List ℕ} where
       meter-now d = sym (meter-at new i d (omega (arith, sweeping_count))) ∙ ap (λ xs. get_or xs i d) meters-now ∙ get_d_swept (then f) (decode_image old).meters i d h
 
       -- it takes its step
-      pub sweeping_more : {new' : List ℕ} {kept' : Joining} {bytes' : List ℕ} → MeterHears f i new kept bytes new' kept' bytes' → Sweeping f old (i + 1) new' kept' bytes'
-      sweeping_more {new'} {kept'} {bytes'} t =
+      pub sweeping_more : {new' : List ℕ} {kept' : Joining} → MeterHears f i new kept new' kept' → Sweeping f old (i + 1) new' kept'
+      sweeping_more {new'} {kept'} t =
           let d = meter_in i new in
           let next : set (decode_image new).meters i ((then f) d) ≡ swept (then f) (i + 1) (decode_image old).meters =
           ap₂ (λ xs x. set xs i x) meters-now (ap (then f) (meter-now d)) ∙ set_swept (then f) (decode_image old).meters i d h ∙ ap (λ k. swept (then f) k (decode_image old).meters) (sym (add-one i)) in
@@ -82,11 +82,11 @@ module _ {f : PlainMeter → Heard} {old : List ℕ} where
             becomes =
                 becomes_as (ap (with_meters (set (decode_image new).meters i ((then f) d))) s.becomes.means ∙ ap (λ xs. with_meters xs (decode_image old)) next)
                 (becomes_then s.becomes t.becomes);
-            joins = subst (λ rs. Joins rs kept' bytes') (sym more) (t.joins (replies (map f (take i (decode_image old).meters))) s.joins);
+            joins = subst (λ rs. Joins rs kept') (sym more) (t.joins (replies (map f (take i (decode_image old).meters))) s.joins);
           }
 
       -- the telegram does nothing to it
-      sweeping_past : f (meter_in i new) ≡ quiet (meter_in i new) → Sweeping f old (i + 1) new kept bytes
+      sweeping_past : f (meter_in i new) ≡ quiet (meter_in i new) → Sweeping f old (i + 1) new kept
       sweeping_past q =
           let d = meter_in i new in
           let same : set (decode_image new).meters i ((then f) d) ≡ (decode_image new).meters =
@@ -94,12 +94,12 @@ module _ {f : PlainMeter → Heard} {old : List ℕ} where
           sweeping_more
           (record {
             becomes = becomes_as (ap (λ xs. with_meters xs (decode_image new)) (sym same)) becomes_same;
-            joins = λ rs j. subst (λ h. Joins (rs ++ replies (h ∷ [])) kept bytes) (sym q) (subst (λ x. Joins x kept bytes) (sym (append-nil rs)) j);
+            joins = λ rs j. subst (λ h. Joins (rs ++ replies (h ∷ [])) kept) (sym q) (subst (λ x. Joins x kept) (sym (append-nil rs)) j);
           })
 
 -- a step, in the way of hearing said otherwise
-pub part_as : {f g : PlainMeter → Heard} {i : ℕ} {old bytes new after : List ℕ} {kept r : Joining} → f ≡ g → MeterHears f i old kept bytes new r after → MeterHears g i old kept bytes new r after
-part_as {i = i} {old = old} {bytes = bytes} {new = new} {after = after} {kept = kept} {r = r} e t = subst (λ h. MeterHears h i old kept bytes new r after) e t
+pub part_as : {f g : PlainMeter → Heard} {i : ℕ} {old new : List ℕ} {kept r : Joining} → f ≡ g → MeterHears f i old kept new r → MeterHears g i old kept new r
+part_as {i = i} {old = old} {new = new} {kept = kept} {r = r} e t = subst (λ h. MeterHears h i old kept new r) e t
 
 -- the places from one on up to i are passed by: the invariant, a turn
 pub record Skipping (q : Seeking) (image : List ℕ) (start end i : ℕ) : Type 0 where
@@ -120,16 +120,16 @@ skipping_more {q} {image} {start} {end} {i} s h out =
     go t k j a b false e = let d : i ≡ j = omega (arith, ltb-false j i e) in subst (λ x. concerns_meter t (meter_in x image) ≡ false) d (out t k)
 
 -- the telegram does nothing to some meters, one after the other
-pub sweeping_skip : {f : PlainMeter → Heard} {old new : List ℕ} {kept : Joining} {bytes : List ℕ} (k : ℕ) {i n : ℕ} → i + k ≡ n → Sweeping f old i new kept bytes → n ≤ length (decode_image old).meters
-    → ((j : ℕ) → i ≤ j → j < n → f (meter_in j new) ≡ quiet (meter_in j new)) → Sweeping f old n new kept bytes
-sweeping_skip {f} {old} {new} {kept} {bytes} zero {i} {n} e s h q = let d : i ≡ n = omega arith in subst (λ x. Sweeping f old x new kept bytes) d s
+pub sweeping_skip : {f : PlainMeter → Heard} {old new : List ℕ} {kept : Joining} (k : ℕ) {i n : ℕ} → i + k ≡ n → Sweeping f old i new kept → n ≤ length (decode_image old).meters
+    → ((j : ℕ) → i ≤ j → j < n → f (meter_in j new) ≡ quiet (meter_in j new)) → Sweeping f old n new kept
+sweeping_skip {f} {old} {new} {kept} zero {i} {n} e s h q = let d : i ≡ n = omega arith in subst (λ x. Sweeping f old x new kept) d s
 sweeping_skip (suc k) {i} {n} e s h q = sweeping_skip k (omega arith) (sweeping_past s (omega arith) (q i (omega arith) (omega arith))) h (λ j a b. q j (omega arith) b)
 
 -- all have heard it
-pub sweeping_all : {f : PlainMeter → Heard} {old new : List ℕ} {i : ℕ} {kept : Joining} {bytes : List ℕ} (t : Telegram) (k : Clock) → Sweeping f old i new kept bytes
-    → i ≡ length (decode_image old).meters → f ≡ hear (decode_image old).baud t (elapsed_of_value k.now (decode_image old).origin) k → Sweeps t k old new kept bytes
+pub sweeping_all : {f : PlainMeter → Heard} {old new : List ℕ} {i : ℕ} {kept : Joining} (t : Telegram) (k : Clock) → Sweeping f old i new kept
+    → i ≡ length (decode_image old).meters → f ≡ hear (decode_image old).baud t (elapsed_of_value k.now (decode_image old).origin) k → Sweeps t k old new kept
 unfolding heard_by
-sweeping_all {f} {old} {new} {i} {kept} {bytes} t k s e w =
+sweeping_all {f} {old} {new} {i} {kept} t k s e w =
     let ms = (decode_image old).meters in
     let g : PlainMeter → PlainMeter = λ p. (f p).meter in
     let hs : map f ms ≡ heard_by t k (decode_image old) = ap (λ x. map x ms) w in
@@ -137,5 +137,5 @@ sweeping_all {f} {old} {new} {i} {kept} {bytes} t k s e w =
     ap (λ n. swept g n ms) e ∙ ap₂ (λ x y. map g x ++ y) (take-length ms) (drop-length ms) ∙ append-nil (map g ms) ∙ sym (map-map (λ h. h.meter) f ms) in
     record {
       becomes = becomes_as (ap (λ xs. with_meters xs (decode_image old)) (all ∙ ap (map (λ h. h.meter)) hs)) s.becomes;
-      joins = subst (λ x. Joins (replies x) kept bytes) (ap (map f) (ap (λ n. take n ms) e ∙ take-length ms) ∙ hs) s.joins;
+      joins = subst (λ x. Joins (replies x) kept) (ap (map f) (ap (λ n. take n ms) e ∙ take-length ms) ∙ hs) s.joins;
     }

@@ -27,11 +27,11 @@ pub record Skips (q : Seeking) (image : List ℕ) (from end r : ℕ) : Type 0 wh
   pub there : (t : Telegram) → Seeks (concerns_by t) q → r < end → concerns_meter t (meter_in r image) ≡ true
 
 -- the meter at the place i hears in the way f, and its reply, if it gives one, is joined to those before it
-pub record MeterHears (f : PlainMeter → Heard) (i : ℕ) (old : List ℕ) (kept : Joining) (bytes new : List ℕ) (r : Joining) (after : List ℕ) : Type 0 where
+pub record MeterHears (f : PlainMeter → Heard) (i : ℕ) (old : List ℕ) (kept : Joining) (new : List ℕ) (r : Joining) : Type 0 where
   pub becomes : Becomes old (with_meters (set (decode_image old).meters i (f (meter_in i old)).meter) (decode_image old)) new
-  pub joins : (rs : List (List ℕ)) → Joins rs kept bytes → Joins (rs ++ replies (f (meter_in i old) ∷ [])) r after
+  pub joins : (rs : List (List ℕ)) → Joins rs kept → Joins (rs ++ replies (f (meter_in i old) ∷ [])) r
 
 -- every meter hears the telegram t, and their replies are joined
-pub record Sweeps (t : Telegram) (k : Clock) (old new : List ℕ) (kept : Joining) (bytes : List ℕ) : Type 0 where
+pub record Sweeps (t : Telegram) (k : Clock) (old new : List ℕ) (kept : Joining) : Type 0 where
   pub becomes : Becomes old (with_meters (map (λ h. h.meter) (heard_by t k (decode_image old))) (decode_image old)) new
-  pub joins : Joins (replies (heard_by t k (decode_image old))) kept bytes
+  pub joins : Joins (replies (heard_by t k (decode_image old))) kept

@@ -1,12 +1,12 @@
 // The meters of an image hear a telegram, one after the other.
-ghost use Rattle.std.specs.Prelude.{◌≡◌, ◌≤◌, ◌<◌, replicate};
+ghost use Rattle.std.specs.Prelude.{◌≡◌, ◌≤◌, ◌<◌, IfSome};
+ghost use Rattle.std.specs.Option.{unwrap_or};
 ghost use Rattle.frame.specs.Frame.{Telegram};
 ghost use Rattle.frame.specs.View.{telegram_of};
 ghost use Rattle.time_seconds.specs.Seconds.{elapsed_of_value};
 ghost use Rattle.meter_step.specs.Hear.{hear};
 ghost use Rattle.meter_concern.specs.ProgramConcern.{concerns_by};
 ghost use Rattle.meter_concern.specs.ProgramSeeking.{Seeks};
-ghost use Rattle.segment_replies.specs.ProgramJoining.{reply_most};
 ghost use Rattle.segment_image.specs.Image.{decode_image};
 ghost use Rattle.segment_places.specs.ProgramBecomes.{meter_in};
 ghost use Rattle.segment_telegram.specs.ProgramSweep.{concerns_meter, Skips, MeterHears, Sweeps};
@@ -16,7 +16,7 @@ use meter_concern::Seeking;
 use meter_step::Answer;
 use segment_image::{IMAGE, METER, METERS_AT};
 use segment_places::{head, meters};
-use segment_replies::{Joining, REPLY};
+use segment_replies::Joining;
 use time_clock::Clock;
 
 // Whether the meter at the place i is one of those sought: its first bytes and its selection tell.
@@ -40,19 +40,18 @@ fn is_sought(q: Seeking, image: &[u8; IMAGE], i: usize) -> bool
     )
 }
 
-// The first place from `from` on whose meter is sought, or the end.
-fn next_sought(q: Seeking, image: &[u8; IMAGE], from: usize, end: usize) -> usize
+// The first place from `from` on whose meter is sought, before the end.
+fn next_sought(q: Seeking, image: &[u8; IMAGE], from: usize, end: usize) -> Option<usize>
     requires { (from ≤ end) × (end ≤ 64) }
-    ensures { Skips q image.now from end result }
+    ensures skips { Skips q image.now from end (unwrap_or result end) }
+    ensures before { IfSome result (λ i. i < end) }
 {
-    let mut i = from;
-    while i < end {
+    for i in from..end {
         if is_sought(q, image, i) {
-            return i;
+            return Some(i);
         }
-        i += 1;
     }
-    end
+    None
 }
 
 // Worked out where it is needed, so that a telegram that asks for no readout does not pay for it.
@@ -66,55 +65,40 @@ fn elapsed_of(image: &[u8; IMAGE], clock: Clock) -> f64
 fn step(
     image: &mut [u8; IMAGE],
     i: usize,
-    joined: &mut [u8; REPLY],
-    kept: Joining,
+    joining: &mut Joining,
     bus: u32,
-    frame: Frame,
-    data: &[u8],
+    frame: Frame<'_>,
     clock: Clock,
-) -> Joining
-    requires { kept.count < 4096 }
-    ensures { MeterHears (hear bus (telegram_of frame «data».now) (elapsed_of_value clock.now (decode_image image.old).origin) clock) i image.old kept joined.old image.new result joined.new }
+)
+    requires { joining.old.count < 4096 }
+    ensures { MeterHears (hear bus (telegram_of frame.entry) (elapsed_of_value clock.now (decode_image image.old).origin) clock) i image.old joining.old image.new joining.new }
 {
     let m = meters::meter_at(image, i);
-    let h = meter_step::hear(m, bus, frame, data);
+    let h = meter_step::hear(m, bus, frame);
     let n = h.meter;
     let answer = h.answer;
     meters::put_meter(image, i, n);
     match answer {
-        Answer::Silent => kept,
-        Answer::Ack => segment_replies::join_ack(joined, kept),
-        Answer::Readout => segment_replies::join(
-            joined,
-            kept,
-            meter_reply::readout(n, elapsed_of(image, clock), clock),
-        ),
+        Answer::Silent => {}
+        Answer::Ack => joining.join_ack(),
+        Answer::Readout => {
+            joining.join(meter_reply::readout(n, elapsed_of(image, clock), clock))
+        }
     }
 }
 
-// Every meter that the telegram concerns hears it; the others need no step.
-pub(crate) fn sweep(
-    image: &mut [u8; IMAGE],
-    joined: &mut [u8; REPLY],
-    frame: Frame,
-    data: &[u8],
-    clock: Clock,
-) -> Joining
-    requires { joined.old ≡ replicate reply_most 0xFF }
-    ensures { Sweeps (telegram_of frame «data».now) clock image.old image.new result joined.new }
+// Every meter that the telegram concerns hears it; the others need no step. Their replies, joined.
+pub(crate) fn sweep(image: &mut [u8; IMAGE], frame: Frame<'_>, clock: Clock) -> Joining
+    ensures { Sweeps (telegram_of frame.entry) clock image.old image.new result }
 {
-    let q = meter_concern::sought_by(frame, data);
+    let q = meter_concern::sought_by(frame);
     let bus = head::baud_of(image);
     let end = head::count_of(image);
-    let mut kept = Joining {
-        count: 0,
-        acks: true,
-        len: 0,
-    };
-    let mut i = next_sought(q, image, 0, end);
-    while i < end {
-        kept = step(image, i, joined, kept, bus, frame, data, clock);
-        i = next_sought(q, image, i + 1, end);
+    let mut joining = Joining::new();
+    let mut from = 0;
+    while let Some(i) = next_sought(q, image, from, end) {
+        step(image, i, &mut joining, bus, frame, clock);
+        from = i + 1;
     }
-    kept
+    joining
 }

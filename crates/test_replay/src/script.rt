@@ -1,119 +1,151 @@
-// The commands' bytes. Past the end of a command there are zeros.
-ghost use Rattle.std.specs.Prelude.{◌≤◌, ◌<◌, length};
+// The commands of a script. A command is a byte that names it and its arguments, each number with its highest byte
+// first.
+ghost use Rattle.std.specs.Prelude.{◌≤◌, length};
+ghost use Rattle.std.specs.Iterator.{at_most};
 
-use laws::least;
+use time_clock::Clock;
 
-pub const OPEN: u8 = 1;
-
-pub const CLOCK: u8 = 2;
-
-pub const SEND: u8 = 3;
-
-pub const RECEIVE: u8 = 4;
-
-pub const CLEAR: u8 = 5;
-
-pub const BAUD: u8 = 6;
-
-pub const STATE: u8 = 7;
-
-pub const SHORT: u8 = 8;
-
-pub const SEARCH: u8 = 9;
-
-pub const BUILTIN: u8 = 10;
-
-pub const EXPORT: u8 = 11;
-
-// The first n bytes, or all.
-pub(crate) fn first(s: &[u8], n: usize) -> &[u8] {
-    let end = least(n, s.len());
-    &s[0..end]
+pub(crate) enum Command<'a> {
+    Open {
+        baud: u32,
+        practice: bool,
+        origin: f64,
+        list: &'a [u8],
+    },
+    Clock(Clock),
+    Send(&'a [u8]),
+    // how many bytes are lent
+    Receive(usize),
+    Clear,
+    Baud(u32),
+    State,
+    Short,
+    // the allowance, and how many entries are lent
+    Search {
+        allowance: u32,
+        lent: usize,
+    },
+    // by the number of the list
+    Builtin {
+        number: u8,
+        baud: u32,
+        practice: bool,
+        origin: f64,
+    },
+    // how many bytes are lent
+    Export(usize),
 }
 
-// The bytes from place n on.
-pub(crate) fn rest(s: &[u8], n: usize) -> &[u8] {
-    let from = least(n, s.len());
-    &s[from..]
-}
+// What is left of a script. Its commands end at its end, at a byte that names no command, and at a command that is cut
+// off.
+#[derive(Drop)]
+pub(crate) struct Script<'a>(pub(crate) &'a [u8]);
 
-pub(crate) fn byte(s: &[u8]) -> u8 {
-    if 0 < s.len() {
-        return s[0];
+impl<'a> Script<'a> {
+    fn array<const N: usize>(&mut self) -> Option<[u8; N]>
+        ensures { length self.new.0.now ≤ length self.old.0.now }
+    {
+        let (front, rest) = self.0.split_first_chunk::<N>()?;
+        self.0 = rest;
+        Some(*front)
     }
-    0
-}
 
-fn wide(x: u8) -> u32
-    ensures { result < 256 }
-{
-    x as u32
-}
+    fn byte(&mut self) -> Option<u8>
+        ensures { length self.new.0.now ≤ length self.old.0.now }
+    {
+        Some(u8::from_be_bytes(self.array()?))
+    }
 
-pub(crate) fn word(s: &[u8]) -> u32
-    ensures { result < 65536 }
-{
-    wide(byte(s)) * 256 + wide(byte(rest(s, 1)))
-}
+    fn word(&mut self) -> Option<u16>
+        ensures { length self.new.0.now ≤ length self.old.0.now }
+    {
+        Some(u16::from_be_bytes(self.array()?))
+    }
 
-pub(crate) fn long(s: &[u8]) -> u32 {
-    word(s) * 65536 + word(rest(s, 2))
-}
+    fn long(&mut self) -> Option<u32>
+        ensures { length self.new.0.now ≤ length self.old.0.now }
+    {
+        Some(u32::from_be_bytes(self.array()?))
+    }
 
-fn wide32(x: u32) -> u64
-    ensures { result < 4294967296 }
-{
-    x as u64
-}
+    fn float(&mut self) -> Option<f64>
+        ensures { length self.new.0.now ≤ length self.old.0.now }
+    {
+        Some(time_seconds::f64_from_bits(u64::from_be_bytes(self.array()?)))
+    }
 
-pub(crate) fn float(s: &[u8]) -> f64 {
-    time_seconds::f64_from_bits(wide32(long(s)) * 4294967296 + wide32(long(rest(s, 4))))
-}
+    fn flag(&mut self) -> Option<bool>
+        ensures { length self.new.0.now ≤ length self.old.0.now }
+    {
+        Some(self.byte()? != 0)
+    }
 
-pub(crate) fn flag(s: &[u8]) -> bool {
-    byte(s) != 0
-}
+    // Bytes behind their length.
+    fn bytes(&mut self) -> Option<&'a [u8]>
+        ensures { length self.new.0.now ≤ length self.old.0.now }
+    {
+        let len = usize::from(self.word()?);
+        let (front, rest) = self.0.split_at_checked(len)?;
+        self.0 = rest;
+        Some(front)
+    }
 
-// A byte as a count.
-pub(crate) fn index(s: &[u8]) -> usize
-    ensures { result < 256 }
-{
-    byte(s) as usize
-}
+    // Seconds, then year, month, day, hour and minute.
+    fn clock(&mut self) -> Option<Clock>
+        ensures { length self.new.0.now ≤ length self.old.0.now }
+    {
+        Some(Clock {
+            now: self.float()?,
+            year: u32::from(self.word()?),
+            month: u32::from(self.word()?),
+            day: u32::from(self.word()?),
+            hour: u32::from(self.word()?),
+            minute: u32::from(self.word()?),
+        })
+    }
 
-// A word as a count.
-pub(crate) fn size(s: &[u8]) -> usize
-    ensures { result < 65536 }
-{
-    word(s) as usize
-}
-
-// How many bytes a command has, its name counted; 0 for none.
-fn wanted(s: &[u8]) -> usize {
-    let name = byte(s);
-    match name {
-        OPEN => 16 + size(rest(s, 14)),
-        CLOCK => 19,
-        SEND => 3 + size(rest(s, 1)),
-        RECEIVE => 2,
-        CLEAR => 1,
-        BAUD => 5,
-        STATE => 1,
-        SHORT => 1,
-        SEARCH => 6,
-        BUILTIN => 15,
-        EXPORT => 3,
-        _ => 0,
+    // The arguments of the command with this name.
+    fn command(&mut self, name: u8) -> Option<Command<'a>>
+        ensures { length self.new.0.now ≤ length self.old.0.now }
+    {
+        Some(match name {
+            1 => Command::Open {
+                baud: self.long()?,
+                practice: self.flag()?,
+                origin: self.float()?,
+                list: self.bytes()?,
+            },
+            2 => Command::Clock(self.clock()?),
+            3 => Command::Send(self.bytes()?),
+            4 => Command::Receive(usize::from(self.byte()?)),
+            5 => Command::Clear,
+            6 => Command::Baud(self.long()?),
+            7 => Command::State,
+            8 => Command::Short,
+            9 => Command::Search {
+                allowance: self.long()?,
+                lent: usize::from(self.byte()?),
+            },
+            10 => Command::Builtin {
+                number: self.byte()?,
+                baud: self.long()?,
+                practice: self.flag()?,
+                origin: self.float()?,
+            },
+            11 => Command::Export(usize::from(self.word()?)),
+            _ => return None,
+        })
     }
 }
 
-// The same, and 0 for a command that is cut off.
-pub(crate) fn used(s: &[u8]) -> usize
-    ensures { result ≤ length s.now }
-{
-    let n = wanted(s);
-    if n <= s.len() {
-        return n;
+impl<'a> Iterator for Script<'a> {
+    type Item = Command<'a>;
+
+    ghost remaining = { λ s. at_most (length s.0.now) };
+
+    fn next(&mut self) -> Option<Command<'a>> {
+        let (name, arguments) = self.0.split_first()?;
+        self.0 = arguments;
+        self.command(*name)
     }
-    0
 }

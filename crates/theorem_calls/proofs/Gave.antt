@@ -1,6 +1,6 @@
 -- What the contract of a call says, of the bytes of the image before and after it; and what follows of 01's answer
 -- and segment.
-use Rattle.std.specs.Prelude.{if◌then◌else◌}
+use Rattle.std.specs.Prelude.{if◌then◌else◌, Result, Ok, Err}
 use mathlib.Core.Path.{◌≡◌, refl, sym, ap, subst, ◌∙◌}
 use mathlib.Core.Bool.{Bool, true, false}
 use mathlib.Core.List.{List}
@@ -23,14 +23,14 @@ use Rattle.segment_image.specs.Image.{decode_image, encode_image, Exact}
 use Rattle.segment_image.specs.Answers.{done_by, DoneImage, OpenedImage, received_by, ReceivedImage, LeftImage}
 use Rattle.search.specs.declared.EntryRecord.{EntryRecord}
 use Rattle.search.specs.declared.Searched.{Searched}
+use Rattle.search.specs.declared.SearchError.{SearchError}
 use Rattle.search.specs.SearchCall as definitions
 use Rattle.search.specs.View.{searched_of, SearchesInto}
-use Rattle.search.proofs.Searched.TheLaws.{lowered as searched-value}
 use Rattle.c_search.specs.Searches.{search_by, summary_of_value, Searches}
 use Rattle.theorem_calls.specs.Call.{Call, opening, sending, receiving, clearing, changing, searching, searching_into, after_call}
 use Rattle.theorem_calls.specs.Answer.{opened, sent, received, changed, searched, searched_into, summary_after, answer_to}
 use Rattle.theorem_calls.specs.Made.{with_bytes}
-use Rattle.theorem_calls.specs.Read.{BytesIn, RecordsIn, Reads}
+use Rattle.theorem_calls.specs.Read.{BytesIn, RecordsIn, result-value, into_answer, Reads}
 
 -- a call on the image bs, in the memory σ, returned r and left the memory σ₁ and the image cs
 abbrev pub Gave : Call → List ℕ → Memory → Val → Memory → List ℕ → Type 0
@@ -41,9 +41,15 @@ Gave clearing bs σ r σ₁ cs = (r ≡ vunit) × LeftImage (clear (decode_image
 Gave (changing baud) bs σ r σ₁ cs = (n : ℕ) × (r ≡ vint w32 n) × DoneImage (change_baud baud (decode_image bs)) n bs cs
 Gave (searching k allowance xs su) bs σ r σ₁ cs =
     (n : ℕ) × (ys : List ℕ) × (zs : List ℕ) × (r ≡ vint w32 n) × BytesIn σ₁ (length σ) ys × BytesIn σ₁ (length (with_bytes σ xs)) zs × Searches (search_by k allowance xs (decode_image bs)) n bs cs xs ys su zs
-Gave (searching_into k allowance lent) bs σ r σ₁ cs = (x : Searched) × (es : List EntryRecord) × (r ≡ searched-value x) × RecordsIn σ₁ (length σ) es × SearchesInto bs k allowance lent x es cs
+Gave (searching_into k allowance lent) bs σ r σ₁ cs = (x : Result Searched SearchError) × (es : List EntryRecord) × (r ≡ result-value x) × RecordsIn σ₁ (length σ) es × SearchesInto bs k allowance lent x es cs
 
 -- ---- the segment
+
+-- a search's answer has the segment that it leaves
+segment_left : (x : Result Searched SearchError) (es : List EntryRecord) (s : Plain) → s ≡ (searched_of x es s).segment
+unfolding searched_of
+segment_left (Ok x) es s = refl
+segment_left (Err e) es s = refl
 
 -- the image means the plain segment after the call
 pub means : (c : Call) (bs : List ℕ) (σ : Memory) (r : Val) (σ₁ : Memory) (cs : List ℕ) → Gave c bs σ r σ₁ cs → decode_image cs ≡ after_call c (decode_image bs)
@@ -54,7 +60,7 @@ means (receiving xs) bs σ r σ₁ cs g = ap (λ (d : plain.Received). d.segment
 means clearing bs σ r σ₁ cs g = g.1.segment
 means (changing baud) bs σ r σ₁ cs g = ap (λ (d : plain.Done). d.segment) g.2.answer
 means (searching k allowance xs su) bs σ r σ₁ cs g = g.6.segment
-means (searching_into k allowance lent) bs σ r σ₁ cs g = ap (λ (d : definitions.Searched). d.segment) g.4.gives
+means (searching_into k allowance lent) bs σ r σ₁ cs g = segment_left g.0 g.1 (decode_image cs) ∙ ap (λ (d : definitions.Searched). d.segment) g.4.gives
 
 -- an opening that is accepted writes the one image of its segment, and one that is refused leaves every byte
 opened_exact : (n : ℕ) (bs cs : List ℕ) (s : Plain) → decode_image cs ≡ s → (n ≡ 0 → cs ≡ encode_image s) → (0 < n → cs ≡ bs) → Exact bs → Exact cs
@@ -83,6 +89,12 @@ summary_is w n su zs e told kept = go (eqb w.number 0) refl
     go : (b : Bool) → eqb w.number 0 ≡ b → zs ≡ summary_after w su
     go true h = told (e ∙ eqb-true w.number 0 h) ∙ sym (ap (λ b. if b then summary_of_value w.count w.probes w.spent else su) h)
     go false h = let f = eqb-false w.number 0 h in kept (omega (arith, e, f)) ∙ sym (ap (λ b. if b then summary_of_value w.count w.probes w.spent else su) h)
+
+-- a search's answer by its result
+into_is : (x : Result Searched SearchError) (es : List EntryRecord) (s : Plain) → let d = searched_of x es s in searched_into d.number d.count d.probes d.spent d.lent ≡ into_answer x es
+unfolding searched_of
+into_is (Ok x) es s = refl
+into_is (Err e) es s = refl
 
 -- what was returned and written is 01's answer: of each call, and of any
 abbrev Answered : Call → List ℕ → Memory → Val → Memory → Type 0
@@ -116,9 +128,8 @@ module _ (bs : List ℕ) (σ : Memory) (r : Val) (σ₁ : Memory) (cs : List ℕ
       (g.0, g.1, g.2, g.3, g.4, g.5, λ j. searched (sym g.6.answer j) (sym g.6.written j) (sym e j))
 
   answers_search_into : (k : Clock) (allowance : ℕ) (lent : List EntryRecord) → Gave (searching_into k allowance lent) bs σ r σ₁ cs → Answered (searching_into k allowance lent) bs σ r σ₁
-  unfolding searched_of
   answers_search_into k allowance lent g =
-      (g.0, g.1, g.2, g.3, ap (λ (d : definitions.Searched). searched_into d.number d.count d.probes d.spent d.lent) (sym g.4.gives))
+      (g.0, g.1, g.2, g.3, ap (λ (d : definitions.Searched). searched_into d.number d.count d.probes d.spent d.lent) (sym g.4.gives) ∙ into_is g.0 g.1 (decode_image cs))
 
 pub answered : (c : Call) (bs : List ℕ) (σ : Memory) (r : Val) (σ₁ : Memory) (cs : List ℕ) → Gave c bs σ r σ₁ cs → Answered c bs σ r σ₁
 answered (opening list bus practice origin) bs σ r σ₁ cs g = answers_open bs σ r σ₁ cs list bus practice origin g

@@ -31,6 +31,12 @@ use Rattle.search.specs.declared.EntryRecord.{EntryRecord}
 use Rattle.search.specs.declared.Searched.{Searched}
 use Rattle.search.specs.View.{SearchesInto}
 use Rattle.search.proofs.Searched.TheLaws as searched-laws
+use Rattle.search.proofs.SearchError.TheLaws as error-laws
+use Rattle.search.specs.declared.SearchError.{SearchError}
+use Rattle.search.specs.contracts.Searched.{the_row as searched-row}
+use Rattle.search.specs.contracts.SearchError.{the_row as error-row}
+use Rattle.std.specs.Prelude.{Result}
+use Rattle.std.proofs.result.Result.TheLaws as result-laws
 use Rattle.search.specs.contracts.search as search-into-contract
 use Rattle.search.proofs.search.Symbol.{name as search-into-name}
 use Rattle.search.proofs.search.Met as search-into-met
@@ -204,7 +210,7 @@ module _ {M : Type 1} {𝓤 : Ura M} (𝓛 : Logic 𝓤) (𝓜 : Model 𝓤 𝓛
     pub search_into_ends : (k : Clock) (allowance : ℕ) (lent : List EntryRecord) → FitCall (searching_into k allowance lent) → ∥ Ends b (searching_into k allowance lent) bs σ G ∥₁
     search_into_ends k allowance lent f =
         let as' : List (Arg 𝓛) = image ∷ clock_arg 𝓛 𝓜 𝓡 k f.0 ∷ word 𝓛 𝓜 𝓡 allowance f.1.0 ∷ records 𝓛 𝓜 𝓡 (length σ) lent f.1.1.1 ∷ [] in
-        let φ : Searched → Values 𝓛 as' → Type 0 = λ r w. SearchesInto bs k allowance lent r w.1.1.1.0 w.0 in
+        let φ : Result Searched SearchError → Values 𝓛 as' → Type 0 = λ r w. SearchesInto bs k allowance lent r w.1.1.1.0 w.0 in
         ∥∥₁_elim (holds_records 𝓛 𝓜 𝓡 σ (sep 𝓤 (Im bs) G) s lent f.1.1.0) ∥∥₁_prop (λ there.
         ∥∥₁_elim (called 𝓛 𝓜 𝓡 strict search-into-contract.signature (𝓡.env search-into-name) (search-into-contract.spec 𝓛 𝓜.mem 𝓡.returns) (search-into-met.met 𝓤 𝓛 𝓜 𝓡 program.at_search_into) as'
         (λ i. (((i.0.0 ∷ [], (i.1.0.0 ∷ [], tt)), (full_share, (full_share, tt)), tt, (ref_to b i.0.1 bs, (k, (allowance, (ref_to (length σ) i.1.0.1 lent, tt)))), (vptr b 0 ∷ [], (clock-laws.lowered k ∷ [], (vint w32 allowance ∷ [], (lent_at σ (length lent) ∷ [], tt))))), tt)) (with_records σ lent) G
@@ -213,4 +219,4 @@ module _ {M : Type 1} {𝓤 : Ura M} (𝓛 : Logic 𝓤) (𝓜 : Model 𝓤 𝓛
         let es : List EntryRecord = t.4.1.1.1.0 in
         let Es : SProp 𝓤 = Records 𝓛 𝓜 𝓡 (length σ) es in
         ∥∥₁_map (loads_records 𝓛 𝓜 𝓡 es (length σ) t.2 G (first 𝓛 𝓜 𝓡 t.2 (Im t.4.0) G Es (emp 𝓤) t.8)) (λ l.
-        ((t.1, t.2), t.5, (t.4.0, (t.3, es, one ((searched-laws.lowers).val_is t.3 (t.1 ∷ []) t.6), l, t.7), kept 𝓛 𝓜 𝓡 t.2 (Im t.4.0) G (sep 𝓤 Es (emp 𝓤)) t.8)))))
+        ((t.1, t.2), t.5, (t.4.0, (t.3, es, one ((result-laws.lowers searched-row error-row searched-laws.the_row_laws error-laws.the_row_laws searched-laws.the_told error-laws.the_told).val_is t.3 (t.1 ∷ []) t.6), l, t.7), kept 𝓛 𝓜 𝓡 t.2 (Im t.4.0) G (sep 𝓤 Es (emp 𝓤)) t.8)))))

@@ -4,8 +4,6 @@
 ghost use Rattle.std.specs.Prelude.{◌≡◌};
 ghost use Rattle.time_clock.specs.Fields.{clock_at_value, good_clock_value};
 
-use laws::is_within;
-
 // Seconds, and the date and time of day that meters write.
 #[derive(Clone, Copy)]
 pub struct Clock {
@@ -18,27 +16,33 @@ pub struct Clock {
 }
 
 // A clock with every field in range: year 1970..9999, month 1..12, day 1..31, hour 0..23, minute 0..59.
+#[tactic(auto, unfolding(crate::specs::Fields::good_clock_value))]
 pub fn good_clock(clock: Clock) -> bool
     ensures { result ≡ good_clock_value clock }
 {
-    let year = is_within(1970, 9999, clock.year);
-    let month = is_within(1, 12, clock.month);
-    let day = is_within(1, 31, clock.day);
-    let hour = is_within(0, 23, clock.hour);
-    let minute = is_within(0, 59, clock.minute);
-    year & month & day & hour & minute
+    matches!(
+        clock,
+        Clock {
+            year: 1970..=9999,
+            month: 1..=12,
+            day: 1..=31,
+            hour: 0..=23,
+            minute: 0..=59,
+            ..
+        }
+    )
 }
 
-// A clock by its six numbers.
+// A clock by the six numbers that the C interface gives.
 pub fn clock_at(secs: f64, year: u32, month: u32, day: u32, hour: u32, minute: u32) -> Clock
     ensures { result ≡ clock_at_value secs year month day hour minute }
 {
     Clock {
         now: secs,
-        year: year,
-        month: month,
-        day: day,
-        hour: hour,
-        minute: minute,
+        year,
+        month,
+        day,
+        hour,
+        minute,
     }
 }

@@ -6,6 +6,7 @@ ghost use Rattle.time_dates.specs.Dates.{type_g_value, type_f_value};
 
 // A date: the day with the three low bits of the year of the century above it, and the month with the
 // other four. Remainders are taken first, so that no sum wraps.
+#[tactic(auto, unfolding(crate::specs::Dates::type_g_value))]
 pub fn type_g(year: u32, month: u32, day: u32) -> [u8; 2]
     ensures { result ≡ type_g_value year month day }
 {
@@ -16,9 +17,10 @@ pub fn type_g(year: u32, month: u32, day: u32) -> [u8; 2]
 }
 
 // Minute and hour before the date.
+#[tactic(auto, unfolding(crate::specs::Dates::type_f_value, crate::specs::Dates::type_g_value))]
 pub fn type_f(year: u32, month: u32, day: u32, hour: u32, minute: u32) -> [u8; 4]
     ensures { result ≡ type_f_value year month day hour minute }
 {
-    let g = type_g(year, month, day);
-    [(minute % 256) as u8, (hour % 256) as u8, g[0], g[1]]
+    let [low, high] = type_g(year, month, day);
+    [(minute % 256) as u8, (hour % 256) as u8, low, high]
 }

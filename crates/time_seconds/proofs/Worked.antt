@@ -3,12 +3,11 @@
 use mathlib.Core.Path.{◌≡◌, refl, sym, ap, subst}
 use mathlib.Core.Bool.{true, false}
 use Prim.Native.Nat.{ℕ, suc, ◌*◌, ◌/◌, ◌^◌, ◌≤◌, ◌<◌, min}
-use native.Mathlib.Nat.{div-mul-le_self, div-lt_iff_lt-mul, lt-suc_self}
+use native.Mathlib.Nat.{div-one, mul-one, div-mul-le_self, div-lt_iff_lt-mul, lt-suc_self}
 use lib.IntN.{ℤ, pos, negsuc}
 use lib.Ieee.{Float, nan, inf, fin, binary64, up, down, round, sub, to_unsigned, of_bits}
 use lib.Ieee.Fits.{down_pos}
 use Rattle.time_seconds.specs.Seconds.{floor, whole, last32, last64, elapsed_of_value}
-use Rattle.time_seconds.proofs.Trunc.{floor-is}
 
 -- (h) 59.9 s: 59, NaN: 0. The f64 that 59.9 stands for is the one nearest to 599 / 10.
 pub worked_h : whole last32 (elapsed_of_value (round binary64 false 599 10) (fin false 0 (pos 0))) ≡ 59
@@ -52,6 +51,20 @@ below = refl
 pub once : elapsed_of_value (round binary64 false 3 10) (round binary64 false 1 10) ≡ of_bits binary64 0x3fc9_9999_9999_9999
 unfolding elapsed_of_value sub round of_bits
 once = refl
+
+-- a NaN counts 0, and an infinity above 0 the last number
+pub nan-none : (last : ℕ) → whole last nan ≡ 0
+unfolding whole
+nan-none last = refl
+
+pub infinite : (last : ℕ) → whole last (inf false) ≡ last
+unfolding whole
+infinite last = refl
+
+-- a value a / c has the whole part a / c
+pub floor-is : (m : ℕ) (e : ℤ) → floor m e ≡ m * up e / down e
+floor-is m (pos k) = sym (div-one (m * 2 ^ k))
+floor-is m (negsuc k) = ap (λ (z : ℕ). z / 2 ^ suc k) (sym (mul-one m))
 
 -- `floor m e` is the whole number n with n ≤ m * 2 ^ e < n + 1, 2 ^ e being up e / down e
 pub floor_low : (m : ℕ) (e : ℤ) → floor m e * down e ≤ m * up e

@@ -1,5 +1,5 @@
-// The whole seconds of a time, worked out from the bits of an `f64`, the time that has elapsed, and an
-// `f64` as a number and back.
+// The whole seconds of a time, the time that has elapsed, and an `f64` as a number and back: in the terms of the
+// definitions, for every float.
 #![tactic(auto)]
 
 ghost use Rattle.std.specs.Prelude.{◌≡◌};
@@ -7,41 +7,23 @@ ghost use Rattle.std.specs.Float.{binary64};
 ghost use Rattle.std.specs.Float.Ieee.{to_bits, of_bits};
 ghost use Rattle.time_seconds.specs.Seconds.{whole, last32, last64, elapsed_of_value};
 
-// The whole seconds of t: the sign and the exponent are the upper twelve bits, the digits below
-// the leading one are the other fifty-two.
+use std::num::{
+    f64_from_bits_with_nan, f64_to_bits_with_nan, saturating_f64_to_u32, saturating_f64_to_u64,
+};
+
+// The whole seconds of t.
+#[tactic(auto, using(crate::proofs::Worked::as_u64))]
 pub fn whole_u64(t: f64) -> u64
     ensures { result ≡ whole last64 t }
 {
-    if t != t {
-        return 0;
-    }
-    let bits: u64 = f64::to_bits(t);
-    let field: u64 = bits >> 52;
-    let digits: u64 = (bits & 0xf_ffff_ffff_ffff) | 0x10_0000_0000_0000;
-    if field < 1023 {
-        return 0;
-    }
-    if field <= 1075 {
-        return digits >> (1075 - field);
-    }
-    if field < 1087 {
-        return digits << (field - 1075);
-    }
-    if field < 2048 {
-        return 0xffff_ffff_ffff_ffff;
-    }
-    0
+    saturating_f64_to_u64(t)
 }
 
+#[tactic(auto, using(crate::proofs::Worked::as_u32))]
 pub fn whole_u32(t: f64) -> u32
     ensures { result ≡ whole last32 t }
 {
-    let n = whole_u64(t);
-    if n < 0xffff_ffff {
-        n as u32
-    } else {
-        0xffff_ffff
-    }
+    saturating_f64_to_u32(t)
 }
 
 // now - origin, rounded once, not below 0.
@@ -49,6 +31,7 @@ pub fn elapsed(now: f64, origin: f64) -> f64
     ensures { result ≡ elapsed_of_value now origin }
 {
     let d = now - origin;
+    // Not `d.max(0.0)`: where d is -0, that may be -0.
     if d > 0.0 { d } else { 0.0 }
 }
 
@@ -56,18 +39,12 @@ pub fn elapsed(now: f64, origin: f64) -> f64
 pub fn f64_bits(x: f64) -> u64
     ensures { result ≡ to_bits binary64 x }
 {
-    if x != x {
-        return 0x7ff8_0000_0000_0000;
-    }
-    f64::to_bits(x)
+    f64_to_bits_with_nan(x)
 }
 
 // And back, for every pattern: every NaN pattern comes back as a NaN.
 pub fn f64_from_bits(n: u64) -> f64
     ensures { result ≡ of_bits binary64 n }
 {
-    if 0x7ff0_0000_0000_0000 < (n & 0x7fff_ffff_ffff_ffff) {
-        return 0.0 / 0.0;
-    }
-    f64::from_bits(n)
+    f64_from_bits_with_nan(n)
 }

@@ -10,8 +10,8 @@ use Rattle.c_frame.proofs.description.Goals as goal
 pub returns : goal.returns
 returns c =
     let a = c.args in
-    let n = c.le4-n in
-    let u = c.le4-u in
+    let n = c.le4 in
+    let u = c.le4-2 in
     let z : List ℕ = 0 ∷ 0 ∷ 0 ∷ 0 ∷ [] in
     blocks_before a.head n.result u.result (search rules) (search rules) (search rules) z
     ∙ ap (λ (x : List ℕ). a.head ++ x ++ u.result ++ z) n.ensures

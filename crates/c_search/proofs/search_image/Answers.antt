@@ -1,6 +1,5 @@
 -- `c_search::search_image` meets its contract.
-use mathlib.Core.Path.{◌≡◌, sym, ◌∙◌}
-use native.Mathlib.Omega.{arith}
+use mathlib.Core.Path.{◌≡◌}
 use lib.ListN.{length}
 use Rattle.list_open.specs.Opening.{most_meters}
 use Rattle.laws.proofs.Sweep.{length_mapped}
@@ -8,15 +7,14 @@ use Rattle.c_search.proofs.SearchLaws.{search_refused_lem, search_made}
 use borrow.Author.Rules.{rules}
 use Rattle.c_search.proofs.search_image.Goals as goal
 
-pub returns-then-number-ne0 : goal.returns-then-number-ne0
-returns-then-number-ne0 c =
+pub returns-in-Ok : goal.returns-in-Ok
+returns-in-Ok c =
     let a = c.args in
-    search_refused_lem a.clock a.allowance a.entries.now a.image.now _ c.search_listed-found.result c.search_listed-found.ensures
-    c.outcome_number-number.result a.summary.now c.outcome_number-number.ensures (omega (arith, c.if-number-ne0.true))
+    let found = c.in-Ok.found in
+    let long : length found.entries ≡ most_meters = search (rules, length_mapped) in
+    search_made a.clock a.allowance a.entries.now a.image.now _ found _ _ (rw c.in-Ok.is at c.search_listed.ensures) long c.write_entries.ensures c.summary_of.ensures a.summary.now
 
-pub returns : goal.returns
-returns c =
-    let long_entries : length c.search_listed-found.result.entries ≡ most_meters = search (rules, length_mapped) in
+pub returns-in-Err : goal.returns-in-Err
+returns-in-Err c =
     let a = c.args in
-    search_made a.clock a.allowance a.entries.now a.image.now _ c.search_listed-found.result c.search_listed-found.ensures
-    _ a.summary.now _ (sym c.if-number-ne0.false ∙ c.outcome_number-number.ensures) long_entries c.write_entries.ensures c.summary_of.ensures
+    rw c.number.ensures (search_refused_lem a.clock a.allowance a.entries.now a.image.now _ c.in-Err.error a.summary.now (rw c.in-Err.is at c.search_listed.ensures))

@@ -1,18 +1,18 @@
-use Rattle.std.proofs.Common.{sym, refl}
-use Rattle.frame.proofs.Cases.{found, found_as, parse-none, front_ack, front_short, front_long, front_other}
+use Rattle.std.proofs.Common.{sym, ◌∙◌, arith}
+use Rattle.frame.proofs.Cases.{parse-none, front_ack, front_short, front_long, front_other}
 use Rattle.frame.proofs.parse.Goals as goal
 
-pub returns-then-s-eq0 : goal.returns-then-s-eq0
-returns-then-s-eq0 c = found (sym (parse-none _ c.if-s-eq0.true)) refl
+pub returns-in_default : goal.returns-in_default
+returns-in_default c = sym (parse-none _ (omega (arith, c.in_default.len_below)))
 
-pub returns-then-b : goal.returns-then-b
-returns-then-b c = found (front_ack _ c.if-s-eq0.false c.if-b.true) refl
+pub returns-in-229 : goal.returns-in-229
+returns-in-229 c = front_ack _ (λ e. omega (arith, c.in-len1-up.len_at_least)) c.in-229.is
 
-pub returns-then-b-eq-START_SHORT : goal.returns-then-b-eq-START_SHORT
-returns-then-b-eq-START_SHORT c = found_as c.parse_short.ensures (front_short _ c.if-s-eq0.false c.if-b-eq-START_SHORT.true)
+pub returns-in-16 : goal.returns-in-16
+returns-in-16 c = c.parse_short.ensures ∙ front_short _ (λ e. omega (arith, c.in-len1-up.len_at_least)) c.in-16.is
 
-pub returns-then-b-eq-START_LONG : goal.returns-then-b-eq-START_LONG
-returns-then-b-eq-START_LONG c = found_as c.parse_long.ensures (front_long _ c.if-s-eq0.false c.if-b-eq-START_LONG.true)
+pub returns-in-104 : goal.returns-in-104
+returns-in-104 c = c.parse_long.ensures ∙ front_long _ (λ e. omega (arith, c.in-len1-up.len_at_least)) c.in-104.is
 
-pub returns : goal.returns
-returns c = found (front_other _ c.if-s-eq0.false c.if-b.false c.if-b-eq-START_SHORT.false c.if-b-eq-START_LONG.false) refl
+pub returns-in_default-first : goal.returns-in_default-first
+returns-in_default-first c = front_other _ (λ e. omega (arith, c.in-len1-up.len_at_least)) (λ e. omega arith) (λ e. omega arith) (λ e. omega arith)

@@ -1,48 +1,39 @@
-use Rattle.std.proofs.Common.{◌≡◌, ◌+◌, ◌-◌, take, drop, sym, refl, ap, ◌∙◌, arith}
-use Rattle.frame.specs.Frame.{incomplete, sum}
-use Rattle.frame.proofs.Cases.{found, long_few, long_lengths, long_start, long_below, Whole, long_sum_lem, long_stop, long_whole, whole_data}
+use Rattle.std.proofs.Common.{◌+◌, sym, ap, ◌∙◌, ⊎_elim, arith}
+use Rattle.frame.specs.Frame.{complete, incomplete}
+use Rattle.frame.proofs.Cases.{long_few, long_lengths, long_start, long_below, whole_at, summed, long_sum_lem, long_stop, long_whole}
 use Rattle.frame.proofs.RoundTrip.{parse_long_waits}
 use Rattle.frame.proofs.parse_long.Goals as goal
 
-pub returns-then-s-lt4 : goal.returns-then-s-lt4
-returns-then-s-lt4 c = found (sym (long_few _ c.if-s-lt4.true)) refl
+pub returns-in_default : goal.returns-in_default
+returns-in_default c = sym (long_few _ c.in_default.len_below)
 
-pub returns-then-wide-l : goal.returns-then-wide-l
-returns-then-wide-l c = found (sym (long_lengths _ (omega arith) (λ e. c.if-wide-l.true (omega arith)))) refl
-
-pub returns-then-s-ne-START_LONG : goal.returns-then-s-ne-START_LONG
-returns-then-s-ne-START_LONG c = found (sym (long_start _ (omega arith) (omega arith) c.if-s-ne-START_LONG.true)) refl
+pub returns-then-start-ne-START_LONG : goal.returns-then-start-ne-START_LONG
+returns-then-start-ne-START_LONG c =
+    let n = c.in-len4-up.len_at_least in
+    sym (⊎_elim (λ a. long_lengths _ n a) (λ b. long_start _ n b.0 b.1) c.if-start-ne-START_LONG.either)
 
 pub returns-then-l-lt3 : goal.returns-then-l-lt3
-returns-then-l-lt3 c = found (sym (long_below _ (omega arith) (omega arith) c.if-s-ne-START_LONG.false (omega arith))) refl
-
-pub overflow_add-all : goal.overflow_add-all
-overflow_add-all c = omega (arith, c.shared_slice_known-2-1.given 1)
-
-pub overflow_cast-due-then-s-all : goal.overflow_cast-due-then-s-all
-overflow_cast-due-then-s-all c = record { fits = omega (arith, c.shared_slice_known-2-1.given 1) }
+returns-then-l-lt3 c =
+    let head = c.if-start-ne-START_LONG.false in
+    sym (long_below _ c.in-len4-up.len_at_least head.0 head.1 (omega (arith, c.from-l.ensures, c.if-l-lt3.true)))
 
 pub returns-then-s-all : goal.returns-then-s-all
-returns-then-s-all c = found (ap incomplete (omega arith) ∙ sym (parse_long_waits _ (omega arith) (omega arith) c.if-s-ne-START_LONG.false (omega arith) (omega arith))) refl
+returns-then-s-all c =
+    let head = c.if-start-ne-START_LONG.false in
+    let l = c.from-l.ensures in
+    ap incomplete (omega (arith, l)) ∙ sym (parse_long_waits _ c.in-len4-up.len_at_least head.0 head.1 (omega (arith, l, c.if-l-lt3.false)) (omega (arith, l, c.if-s-all.true)))
 
 pub returns-then-s-l : goal.returns-then-s-l
 returns-then-s-l c =
-    let whole : Whole c.args.s.now c.wide-l.result = record { counted = sym c.wide-l.ensures; again = omega arith; start = c.if-s-ne-START_LONG.false; enough = omega arith; there = omega arith } in
-    let summed : c.checksum-total.result ≡ sum (take c.wide-l.result (drop 4 c.args.s.now)) = let e : 4 + c.wide-l.result - 4 ≡ c.wide-l.result = omega arith in
-    c.checksum-total.ensures ∙ ap (λ n. sum (take n (drop 4 c.args.s.now))) e in
-    found (sym (long_sum_lem _ _ (whole) (λ e. c.if-s-l.true (e ∙ sym (summed))))) refl
+    let whole = whole_at _ _ c.from-l.ensures c.if-start-ne-START_LONG.false c.if-l-lt3.false c.if-s-all.false in
+    sym (long_sum_lem _ _ whole (λ e. c.if-s-l.true (e ∙ sym (summed c.args.s.now _ c.checksum.ensures))))
 
 pub returns-then-s-l-ne-STOP : goal.returns-then-s-l-ne-STOP
 returns-then-s-l-ne-STOP c =
-    let whole : Whole c.args.s.now c.wide-l.result = record { counted = sym c.wide-l.ensures; again = omega arith; start = c.if-s-ne-START_LONG.false; enough = omega arith; there = omega arith } in
-    let summed : c.checksum-total.result ≡ sum (take c.wide-l.result (drop 4 c.args.s.now)) = let e : 4 + c.wide-l.result - 4 ≡ c.wide-l.result = omega arith in
-    c.checksum-total.ensures ∙ ap (λ n. sum (take n (drop 4 c.args.s.now))) e in
-    found (sym (long_stop _ _ (whole) (c.if-s-l.false ∙ summed) c.if-s-l-ne-STOP.true)) refl
+    let whole = whole_at _ _ c.from-l.ensures c.if-start-ne-START_LONG.false c.if-l-lt3.false c.if-s-all.false in
+    sym (long_stop _ _ whole (c.if-s-l.false ∙ summed c.args.s.now _ c.checksum.ensures) c.if-s-l-ne-STOP.true)
 
-pub returns : goal.returns
-returns c =
-    let whole : Whole c.args.s.now c.wide-l.result = record { counted = sym c.wide-l.ensures; again = omega arith; start = c.if-s-ne-START_LONG.false; enough = omega arith; there = omega arith } in
-    let summed : c.checksum-total.result ≡ sum (take c.wide-l.result (drop 4 c.args.s.now)) = let e : 4 + c.wide-l.result - 4 ≡ c.wide-l.result = omega arith in
-    c.checksum-total.ensures ∙ ap (λ n. sum (take n (drop 4 c.args.s.now))) e in
-    let w = whole in
-    found (long_whole _ _ w (c.if-s-l.false ∙ summed) c.if-s-l-ne-STOP.false) (whole_data _ _ w)
+pub returns-else-s-l-ne-STOP : goal.returns-else-s-l-ne-STOP
+returns-else-s-l-ne-STOP c =
+    let whole = whole_at _ _ c.from-l.ensures c.if-start-ne-START_LONG.false c.if-l-lt3.false c.if-s-all.false in
+    ap (λ t. complete t (c.from-l.result + 6)) c.long_frame.ensures ∙ long_whole _ _ whole (c.if-s-l.false ∙ summed c.args.s.now _ c.checksum.ensures) c.if-s-l-ne-STOP.false

@@ -9,12 +9,12 @@ use Rattle.jezynar.proofs.jezynar_segment_open.Goals as goal
 pub packed-requires : goal.packed-requires
 packed-requires c =
     let a = c.args in
-    opening_index a.list.now a.baud a.practice c.open-refusal.ensures.index_is
+    opening_index a.list.now a.baud a.practice c.open-answer.ensures.index_is
 
 pub returns : goal.returns
 returns c =
-    let r = c.open-refusal.result in
-    let o = c.open-refusal.ensures in
+    let r = c.open-answer.result in
+    let o = c.open-answer.ensures in
     let e = c.packed.ensures in
     let small = number_small r in
     let n : refusal_number_value r ≡ c.packed.result % 256 = omega (arith, e, small) in

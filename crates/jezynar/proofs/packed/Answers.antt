@@ -4,7 +4,7 @@ use Rattle.jezynar.proofs.ImageLaws.{number_small}
 use Rattle.jezynar.proofs.packed.Goals as goal
 
 pub overflow_add-result : goal.overflow_add-result
-overflow_add-result c = omega (arith, number_small c.args.refusal, c.refusal_index-index.ensures, c.refusal_number-number.ensures)
+overflow_add-result c = omega (arith, number_small c.args.answer, c.refusal_index-index.ensures, c.refusal_number-number.ensures)
 
 pub returns : goal.returns
 returns c = omega (arith, c.refusal_index-index.ensures, c.refusal_number-number.ensures)

@@ -1,24 +1,30 @@
 -- `list_open::meters_of` meets its contract.
 use mathlib.Core.Path.{sym, ◌∙◌}
 use native.Mathlib.Omega.{arith}
-use Rattle.list_check.specs.declared.refusal.Refusal.TheVariants.{Version, Length}
-use Rattle.list_open.proofs.GivenLaws.{by_shape, given-refused, given_over, rate_kept, rate_good, rate_bad, given_records}
+use Rattle.std.proofs.lemmas.Result.{err_from_is_err_and}
+use Rattle.list_open.proofs.GivenLaws.{given_layout, given_over, given_refused_record, given_baud, given_meters_all}
 use Rattle.list_open.proofs.meters_of.Goals as goal
 
-pub returns-then-n-gt-METERS : goal.returns-then-n-gt-METERS
-returns-then-n-gt-METERS c = given_over c.args.list.now c.args.bus c.args.practice (sym c.in-Fits.is ∙ c.layout.ensures) (omega arith) c.no_meters.ensures
+pub returns-in_err-records : goal.returns-in_err-records
+returns-in_err-records c =
+    let p = err_from_is_err_and c.from_residual.result c.from_residual.ensures.1 in
+    rw (p.1, p.2) (given_layout c.args.list.now c.args.bus c.args.practice _ c.in_err-records.ensures)
+
+pub returns-then-records-gt-METERS : goal.returns-then-records-gt-METERS
+returns-then-records-gt-METERS c = given_over c.args.list.now c.args.bus c.args.practice c.in_ok-records.ensures (omega arith)
+
+pub gather-requires : goal.gather-requires
+gather-requires c = record { records = c.in_ok-records.records; fits = sym c.in_ok-records.ensures; few = omega arith }
+
+pub returns-in_err-opened : goal.returns-in_err-opened
+returns-in_err-opened c =
+    let p = err_from_is_err_and c.from_residual-in_err-opened.result c.from_residual-in_err-opened.ensures.1 in
+    rw (p.1, p.2) (given_refused_record c.args.list.now c.args.bus c.args.practice c.in_ok-records.ensures (omega arith) c.in_err-opened.ensures)
 
 pub returns-then-is_rate : goal.returns-then-is_rate
-returns-then-is_rate c = given_records c.args.list.now c.args.bus c.args.practice (sym c.in-Fits.is ∙ c.layout.ensures) (omega arith) c.gather-m.ensures (rate_good c.args.bus _ (sym c.is_rate.ensures ∙ c.if-is_rate.true))
+returns-then-is_rate c =
+    given_meters_all c.args.list.now c.args.bus c.args.practice c.in_ok-records.ensures (omega arith) c.in_ok-opened.ensures (sym c.is_rate.ensures ∙ c.if-is_rate.true)
 
-pub returns-then-is_accepted : goal.returns-then-is_accepted
-returns-then-is_accepted c = given_records c.args.list.now c.args.bus c.args.practice (sym c.in-Fits.is ∙ c.layout.ensures) (omega arith) c.gather-m.ensures (rate_bad c.args.bus _ (sym c.is_accepted.ensures ∙ c.if-is_accepted.true) (sym c.is_rate.ensures ∙ c.if-is_rate.false) c.no_meters-then-is_accepted.ensures)
-
-pub returns-else-is_accepted : goal.returns-else-is_accepted
-returns-else-is_accepted c = given_records c.args.list.now c.args.bus c.args.practice (sym c.in-Fits.is ∙ c.layout.ensures) (omega arith) c.gather-m.ensures (rate_kept c.args.bus _ (sym c.is_accepted.ensures ∙ c.if-is_accepted.false))
-
-pub returns-in-Unversioned : goal.returns-in-Unversioned
-returns-in-Unversioned c = given-refused c.args.list.now c.args.bus c.args.practice Version c.no_meters-in-Unversioned.ensures (by_shape c.args.list.now c.args.bus c.args.practice (sym c.in-Unversioned.is ∙ c.layout.ensures))
-
-pub returns-in-Unfit : goal.returns-in-Unfit
-returns-in-Unfit c = given-refused c.args.list.now c.args.bus c.args.practice Length c.no_meters-in-Unfit.ensures (by_shape c.args.list.now c.args.bus c.args.practice (sym c.in-Unfit.is ∙ c.layout.ensures))
+pub returns-else-is_rate : goal.returns-else-is_rate
+returns-else-is_rate c =
+    given_baud c.args.list.now c.args.bus c.args.practice c.in_ok-records.ensures (omega arith) c.in_ok-opened.ensures (sym c.is_rate.ensures ∙ c.if-is_rate.false)

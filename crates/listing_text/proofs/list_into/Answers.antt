@@ -1,24 +1,37 @@
-use mathlib.Core.Path.{◌≡◌, ◌∙◌}
-use lib.ListN.{length}
+use mathlib.Core.Path.{◌≡◌, ap, ◌∙◌}
+use Prim.Native.Nat.{ℕ}
+use native.Mathlib.Omega.{arith}
+use lib.ListN.{length, take, length-take}
 use borrow.Author.Rules.{rules}
 use Rattle.search.specs.Site.{site}
 use Rattle.laws.proofs.Sweep.{length_mapped}
 use Rattle.list_open.specs.Opening.{capacity}
-use Rattle.listing_text.proofs.ListingLaws.{lists_refusal, lists_report}
+use Rattle.segment_calls.proofs.OpenLaws.{refused-number}
+use Rattle.listing_text.proofs.ListingLaws.{lists_refusal, lists_report, lists_none}
 use Rattle.listing_text.proofs.list_into.Goals as goal
 
-pub returns-then-n-ne0 : goal.returns-then-n-ne0
-returns-then-n-ne0 c =
-    let n = c.refusal_number-n in
-    lists_refusal _ n.result (n.ensures ∙ c.open_list-answer.ensures.number) c.if-n-ne0.true c.refusal.ensures
+pub returns-in-Err : goal.returns-in-Err
+returns-in-Err c =
+    let n = c.number in
+    lists_refusal _ n.result (n.ensures ∙ (rw c.in-Err.is at c.open_list.ensures.number)) (λ z. absurd (omega (arith, refused-number c.in-Err.refusal, n.ensures, z))) c.push_refusal.ensures
 
-pub returns : goal.returns
+pub push_report-requires : goal.push_report-requires
+unfolding capacity
+push_report-requires c = (c.requires, simp length-take (omega (arith, c.min.ensures)))
+
+pub returns-in-Ok : goal.returns-in-Ok
 unfolding capacity site
-returns c =
-    let o = c.open_list-answer in
-    let n = c.refusal_number-n in
-    let k = c.clock in
-    let f = c.search_listed-found in
-    let d : length f.result.entries ≡ capacity = search (rules, length_mapped) in
-    lists_report _ n.result _ _ k.result f.result (n.ensures ∙ o.ensures.number) c.if-n-ne0.false
-    o.ensures.segment k.ensures f.ensures d c.report.ensures
+returns-in-Ok c =
+    let o = c.open_list.ensures in
+    let f = c.in-Ok.found in
+    let d : length f.entries ≡ capacity = search (rules, length_mapped) in
+    let s = rw c.in-Ok.is at c.search_listed.ensures in
+    lists_report _ _ _ c.clock.result (rw c.in_default.is at o.number) o.segment c.clock.ensures f _ s d
+    (ap (λ (j : ℕ). take j f.entries) (omega (arith, c.min.ensures, s.fits))) c.push_report.ensures
+
+pub returns-in-Err-search_listed : goal.returns-in-Err-search_listed
+unfolding capacity site
+returns-in-Err-search_listed c =
+    let o = c.open_list.ensures in
+    lists_none _ _ _ c.clock.result (rw c.in_default.is at o.number) o.segment c.clock.ensures _
+    (rw c.in-Err-search_listed.is at c.search_listed.ensures) c.push_report-in-Err-search_listed.ensures

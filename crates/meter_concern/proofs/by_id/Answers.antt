@@ -6,12 +6,12 @@ use Rattle.numbers.specs.Number.{number}
 use Rattle.meter_identity.specs.Identity.{digits_of_value}
 use Rattle.meter_select.specs.Matching.{id_matches_value}
 use Rattle.meter_concern.specs.ProgramSeeking.{Seeks}
-use Rattle.meter_concern.proofs.SeekLaws.{known_bytes, seeks_as, seeks_mask, few_none}
+use Rattle.meter_concern.proofs.SeekLaws.{known_bytes, seeks_as, seeks_mask, seeks_selected, few_none}
 use borrow.Author.Rules.{rules}
 use Rattle.meter_concern.proofs.by_id.Goals as goal
 
 pub returns-then-data-lt8 : goal.returns-then-data-lt8
-returns-then-data-lt8 c = seeks_as (few_none c.args.«data».now c.if-data-lt8.true) c.the_selected.ensures
+returns-then-data-lt8 c = seeks_as (few_none c.args.«data».now c.if-data-lt8.true) seeks_selected
 
 pub returns : goal.returns
 returns c =

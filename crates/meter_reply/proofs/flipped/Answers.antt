@@ -5,11 +5,11 @@ use Rattle.meter_reply.proofs.flipped.Goals as goal
 pub said_len-n-requires : goal.said_len-n-requires
 said_len-n-requires c = tt
 
-pub bounds-t-n : goal.bounds-t-n
-bounds-t-n c = let r = c.args.r in let l : length r.bytes ≡ 96 = search rules in omega (arith, c.said_len-n.ensures.is, length-take r.len r.bytes)
+pub bounds-r-n : goal.bounds-r-n
+bounds-r-n c = let r = c.args.r in let l : length r.bytes ≡ 96 = search rules in omega (arith, c.said_len-n.ensures.is, length-take r.len r.bytes)
 
-pub bounds-t-n-2 : goal.bounds-t-n-2
-bounds-t-n-2 c = let r = c.args.r in let l : length r.bytes ≡ 96 = search rules in omega (arith, c.said_len-n.ensures.is, length-take r.len r.bytes)
+pub bounds-r-n-2 : goal.bounds-r-n-2
+bounds-r-n-2 c = let r = c.args.r in let l : length r.bytes ≡ 96 = search rules in omega (arith, c.said_len-n.ensures.is, length-take r.len r.bytes)
 
 pub returns : goal.returns
 returns c =

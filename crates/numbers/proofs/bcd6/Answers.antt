@@ -11,5 +11,5 @@ returns c =
     let v = c.args.v in
     let v8 = c.above8.result in
     let v12 = c.above12.result in
-    let high = c.digits4-high.ensures ∙ bcd_low 2 v8 v12 (omega arith) in
-    rw (c.bcd4-low.ensures, high, c.above8.ensures) (sym (bcd_add 4 2 v))
+    let high = c.digits4.ensures ∙ bcd_low 2 v8 v12 (omega arith) in
+    rw (c.bcd4.ensures, high, c.above8.ensures) (sym (bcd_add 4 2 v))

@@ -1,7 +1,13 @@
 -- `numbers::le4` meets its contract.
-use mathlib.Core.Path.{sym}
-use Rattle.numbers.proofs.ValueLaws.{little_four}
+use mathlib.Core.Path.{◌≡◌}
+use Prim.Native.Nat.{ℕ, ◌/◌}
+use native.Mathlib.Omega.{arith}
+use Rattle.numbers.specs.Values.{little}
 use Rattle.numbers.proofs.le4.Goals as goal
 
+upper_half : (v : ℕ) → v / 256 / 256 ≡ v / 65536
+upper_half v = omega arith
+
 pub returns : goal.returns
-returns c = rw (c.byte.ensures, c.byte-2.ensures, c.byte-3.ensures, c.byte-4.ensures) (sym (little_four c.args.v))
+unfolding little
+returns c = rw (c.le2.ensures, c.le2-2.ensures, upper_half c.args.v)

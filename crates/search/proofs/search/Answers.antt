@@ -1,22 +1,19 @@
-use Rattle.std.proofs.Common.{◌<◌, length, arith}
-use Rattle.list_open.specs.Opening.{capacity}
-use Rattle.search.proofs.Filled.{filled_next, searches_filled}
+use Rattle.std.proofs.lemmas.Result.{err_from_is_err_and}
+use Rattle.search.proofs.Filled.{searches_filled, searches_refused}
 use Rattle.search.proofs.search.Goals as goal
 
-pub entry_at-e-requires : goal.entry_at-e-requires
-unfolding capacity
-entry_at-e-requires c = omega (arith, c.search_core-core.ensures.fits)
-
-pub loop-i-preserved : goal.loop-i-preserved
-unfolding capacity
-loop-i-preserved c =
-    let core = c.search_core-core.result in
-    let xs = c.args.entries.now in
-    let all : c.loop-i.i < length core.entries = omega (arith, c.search_core-core.ensures.fits, c.search_core-core.array_long) in
-    let room : c.loop-i.i < length xs = omega (arith, c.search_core-core.ensures.enough) in
-    (omega arith, rw (c.loop-i.invariant.1, c.entry_at-e.ensures) (filled_next core xs c.loop-i.i all room))
+pub returns-in_err-core : goal.returns-in_err-core
+returns-in_err-core c =
+    let a = c.args in
+    let p = err_from_is_err_and c.from_residual.result c.from_residual.ensures.1 in
+    rw (p.1, p.2)
+    (searches_refused a.image.now a.clock a.allowance a.entries.now c.search_core.new.image c.in_err-core.field-0.0
+    (rw c.in_err-core.was at c.search_core.ensures))
 
 pub returns : goal.returns
 returns c =
-    rw c.loop-i.invariant.1
-    (searches_filled c.args.image.now c.args.clock c.args.allowance c.args.entries.now c.search_core-core.result c.search_core-core.new.image c.answer.result c.loop-i.i c.search_core-core.ensures c.answer.ensures (omega arith))
+    let a = c.args in
+    let core = c.in_ok-core.core in
+    rw c.copy_from_slice.ensures.after
+    (searches_filled a.image.now a.clock a.allowance a.entries.now c.search_core.new.image core
+    (rw c.in_ok-core.was at c.search_core.ensures))

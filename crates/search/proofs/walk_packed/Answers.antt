@@ -6,5 +6,5 @@ pub returns : goal.returns
 unfolding capacity
 returns c =
     let a = c.args in
-    walks a.image.now _ a.allowance c.walk_all-w.result _ _ _ _ c.keys_of-keys.ensures c.marks_of-marks.ensures.0 c.marks_of-marks.ensures.1 c.walk_all-w.ensures
-    c.unmark_all.ensures c.records_of-records.ensures c.least.ensures
+    walks a.image.now _ a.allowance c.walk_all-w.result _ _ _ _ c.packed_of-packed.ensures.keys c.packed_of-packed.ensures.marks c.packed_of-packed.ensures.bounded c.walk_all-w.ensures
+    c.unmark_all.ensures c.records_of.ensures c.min.ensures

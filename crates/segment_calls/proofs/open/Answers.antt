@@ -1,40 +1,40 @@
-use mathlib.Core.Path.{refl, sym, ap, ◌∙◌}
+-- `segment_calls::open` meets its contract.
+use mathlib.Core.Path.{refl, ap, ◌∙◌}
 use native.Mathlib.Omega.{arith}
 use mathlib.Core.List.{[]}
+use Rattle.std.proofs.lemmas.Result.{err_from_is_err_and}
 use Rattle.segment_image.specs.Image.{decode_image, encode_image}
-use Rattle.segment_calls.proofs.OpenLaws.{accepted-number, refused-number, opening_accepted, opening_refused}
+use Rattle.segment_calls.proofs.OpenLaws.{refused-number, opening_accepted, opening_refused}
 use Rattle.segment_calls.proofs.open.Goals as goal
 
-pub returns-then-not-is_accepted : goal.returns-then-not-is_accepted
-returns-then-not-is_accepted c =
+pub returns-in_err-m : goal.returns-in_err-m
+returns-in_err-m c =
     let a = c.args in
-    let m = c.meters_of-m in
-    let d = c.is_accepted in
-    let refused = sym d.ensures ∙ c.if-not-is_accepted.true in
+    let p = err_from_is_err_and c.from_residual.result c.from_residual.ensures.1 in
+    let m = c.in_err-m.ensures in
+    rw (p.1, p.2)
     record {
-      number_is = m.ensures.number;
-      index_is = m.ensures.index;
-      segment = opening_refused a.list.now a.baud a.practice a.origin (decode_image a.image.now) m.result.refusal m.ensures.number refused;
-      bytes = λ z. absurd (omega (arith, refused-number m.result.refusal refused));
+      number_is = m.number;
+      index_is = m.index;
+      segment = opening_refused a.list.now a.baud a.practice a.origin (decode_image a.image.now) c.in_err-m.field-0.0 m.number;
+      bytes = λ z. absurd (omega (arith, refused-number c.in_err-m.field-0.0));
       kept = λ z. refl;
     }
 
 pub returns : goal.returns
 returns c =
     let a = c.args in
-    let m = c.meters_of-m in
-    let d = c.is_accepted in
+    let m = c.in_ok-m.ensures in
     let w = c.write_image.ensures in
     let o = c.opened-opened in
-    let accepted = sym d.ensures ∙ c.if-not-is_accepted.false in
     let p =
     o.ensures
-    ∙ ap (λ ms. record { baud = a.baud; origin = a.origin; input = []; queue = []; meters = ms }) m.ensures.meters
-    ∙ opening_accepted a.list.now a.baud a.practice a.origin (decode_image a.image.now) m.result.refusal m.ensures.number accepted in
+    ∙ ap (λ ms. record { baud = a.baud; origin = a.origin; input = []; queue = []; meters = ms }) m.meters
+    ∙ opening_accepted a.list.now a.baud a.practice a.origin (decode_image a.image.now) m.number in
     record {
-      number_is = m.ensures.number;
-      index_is = m.ensures.index;
+      number_is = m.number;
+      index_is = m.index;
       segment = w.means ∙ p;
       bytes = λ z. w.bytes ∙ ap encode_image p;
-      kept = λ z. absurd (omega (arith, accepted-number m.result.refusal accepted));
+      kept = λ z. absurd (omega arith);
     }

@@ -16,7 +16,7 @@ use Rattle.segment_image.proofs.read_image.Goals as goal
 pub read_meters-meters-requires : goal.read_meters-meters-requires
 unfolding capacity
 read_meters-meters-requires c =
-    (length_rest 4374 (25 * capacity) c.args.image.now (search rules), omega (arith, c.least-count.ensures))
+    (length_rest 4374 (25 * capacity) c.args.image.now (search rules), omega (arith, c.min-count.ensures))
 
 pub returns : goal.returns
 unfolding capacity number
@@ -24,7 +24,7 @@ returns c =
     let bs = c.args.image.now in
     sym
     (image_is _ bs (sym c.four.ensures) (sym (c.f64_from_bits.ensures ∙ ap (of_bits binary64) c.origin_bits.ensures))
-    (ap (λ (n : ℕ). block 18 n bs) (sym (c.least-waiting.ensures ∙ ap (λ (n : ℕ). min n 260) c.two-2.ensures)) ∙ sym c.read_input-input.ensures)
-    (ap (λ (n : ℕ). block 278 n bs) (sym (c.least-queued.ensures ∙ ap (λ (n : ℕ). min n 4096) c.two-3.ensures)) ∙ sym c.read_queue-queue.ensures)
-    (ap (λ (n : ℕ). meters n (drop 4374 bs)) (sym (c.least-count.ensures ∙ ap (λ (n : ℕ). min n capacity) c.two.ensures))
-    ∙ sym (c.read_meters-meters.ensures ∙ ap (meters c.least-count.result) (take_rest bs 4374))))
+    (ap (λ (n : ℕ). block 18 n bs) (sym (c.min-waiting.ensures ∙ ap (λ (n : ℕ). min n 260) (c.from-2.ensures ∙ c.two-2.ensures))) ∙ sym c.read_part-input.ensures)
+    (ap (λ (n : ℕ). block 278 n bs) (sym (c.min-queued.ensures ∙ ap (λ (n : ℕ). min n 4096) (c.from-3.ensures ∙ c.two-3.ensures))) ∙ sym c.read_part-queue.ensures)
+    (ap (λ (n : ℕ). meters n (drop 4374 bs)) (sym (c.min-count.ensures ∙ ap (λ (n : ℕ). min n capacity) (c.from.ensures ∙ c.two.ensures)))
+    ∙ sym (c.read_meters-meters.ensures ∙ ap (meters c.min-count.result) (take_rest bs 4374))))

@@ -12,35 +12,11 @@ use Rattle.segment_image.proofs.read_meters.Goals as goal
 
 pub loop-i-init : goal.loop-i-init
 unfolding capacity
-loop-i-init c = (omega arith, omega arith, omega arith, search rules, got_none)
-
-pub overflow_mul-p : goal.overflow_mul-p
-overflow_mul-p c = omega arith
-
-pub overflow_add-p : goal.overflow_add-p
-overflow_add-p c = omega arith
-
-pub slice_bounds-read_meter-count : goal.slice_bounds-read_meter-count
-slice_bounds-read_meter-count c = omega arith
-
-pub slice_bounds-read_meter-start : goal.slice_bounds-read_meter-start
-slice_bounds-read_meter-start c = omega arith
-
-pub slice_bounds-read_meter-end : goal.slice_bounds-read_meter-end
-slice_bounds-read_meter-end c = omega arith
-
-pub offset_bounds-ms-i : goal.offset_bounds-ms-i
-offset_bounds-ms-i c = omega arith
+loop-i-init c = (search rules, got_none)
 
 pub bounds-ms-i : goal.bounds-ms-i
 unfolding capacity
 bounds-ms-i c = omega arith
-
-pub overflow_add-i : goal.overflow_add-i
-overflow_add-i c = omega arith
-
-pub loop-i-smaller : goal.loop-i-smaller
-loop-i-smaller c = omega arith
 
 pub loop-i-preserved : goal.loop-i-preserved
 loop-i-preserved c =
@@ -50,13 +26,10 @@ loop-i-preserved c =
     let e : 25 * at.i + 25 - 25 * at.i ≡ 25 = omega arith in
     let part = take (25 * at.i + 25 - 25 * at.i) (drop (25 * at.i) a.bs.now) in
     let h : 25 ≤ length part = simp (length-take, length-drop) (omega arith) in (
-      omega arith,
-      inv.1,
-      inv.2,
-      simp length-set inv.3,
-      got_more c.read_meter-m.result inv.4 (omega arith)
-          (c.read_meter-m.ensures ∙ ap decode_meter (enough part h) ∙ ap (λ (k : ℕ). decode_meter (take k (drop (25 * at.i) a.bs.now))) e),
+      simp length-set inv.0,
+      got_more c.read_meter.result inv.1 (omega arith)
+          (c.read_meter.ensures ∙ ap decode_meter (enough part h) ∙ ap (λ (k : ℕ). decode_meter (take k (drop (25 * at.i) a.bs.now))) e),
     )
 
 pub returns : goal.returns
-returns c = got_all c.args.count c.loop-i.invariant.4 (omega arith)
+returns c = got_all c.args.count c.loop-i.invariant.1 (omega arith)

@@ -7,4 +7,4 @@ use Rattle.segment_image.proofs.write_image.Goals as goal
 
 pub write_parts-requires : goal.write_parts-requires
 unfolding capacity
-write_parts-requires c = (search rules, zeros_long (length c.args.image.now) _ c.blank.ensures)
+write_parts-requires c = (search rules, zeros_long (length c.args.image.now) _ (c.fill.ensures.after (search rules)))

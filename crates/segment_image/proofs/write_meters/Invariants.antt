@@ -1,12 +1,9 @@
 use mathlib.Core.Path.{◌≡◌}
-use Prim.Native.Nat.{◌*◌, ◌-◌, ◌≤◌}
+use Prim.Native.Nat.{◌*◌}
 use lib.ListN.{length}
 use Rattle.list_open.specs.Opening.{capacity}
 use Rattle.segment_image.proofs.MeterLaws.{Put}
 use Rattle.segment_image.proofs.write_meters.Given as goal
 
 abbrev pub invariant-loop-i : goal.invariant-loop-i
-invariant-loop-i l = (l.i ≤ l.count) × (l.count ≤ capacity) × (length l.initial.bs ≡ 25 * capacity) × (length l.bs ≡ length l.initial.bs) × (length l.ms ≡ capacity) × Put l.ms l.initial.bs l.i l.bs
-
-abbrev pub decreases-loop-i : goal.decreases-loop-i
-decreases-loop-i l = l.count - l.i
+invariant-loop-i l = (length l.bs ≡ 25 * capacity) × (length l.ms ≡ capacity) × Put l.ms l.initial.bs l.i l.bs

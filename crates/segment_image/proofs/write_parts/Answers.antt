@@ -19,7 +19,7 @@ use Rattle.segment_image.proofs.write_parts.Goals as goal
 pub write_meters-requires : goal.write_meters-requires
 unfolding capacity
 write_meters-requires c =
-    (length_rest 4374 (25 * capacity) c.copy-3.new.to (omega (arith, c.requires.0, c.copy.auto.to, c.copy-2.auto.to, c.copy-3.auto.to)), omega (arith, c.least-count.ensures))
+    (length_rest 4374 (25 * capacity) c.copy-3.new.to (omega (arith, c.requires.0, c.copy.auto.to, c.copy-2.auto.to, c.copy-3.auto.to)), omega (arith, c.min-count.ensures))
 
 pub returns : goal.returns
 unfolding capacity
@@ -31,12 +31,12 @@ returns c =
     let l₃ = c.copy-3.new.to in
     let long = c.requires.0 in
     let wrote = c.write_meters.ensures in
-    let n = c.least-count.result in
+    let n = c.min-count.result in
     let made : Copies c.args.s _ _ _ _ c.args.bs.now _ _ l₃ _ =
     record {
-      count_is = c.least-count.ensures;
-      waiting_is = c.least-waiting.ensures;
-      queued_is = c.least-queued.ensures;
+      count_is = c.min-count.ensures;
+      waiting_is = c.min-waiting.ensures;
+      queued_is = c.min-queued.ensures;
       input_long = long_input;
       queue_long = long_queue;
       meters_long = long_meters;

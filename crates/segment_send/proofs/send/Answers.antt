@@ -1,22 +1,12 @@
-use mathlib.Core.Path.{◌≡◌, refl, ap, subst, ◌∙◌}
-use mathlib.Core.Bool.{Bool, not}
-use mathlib.Core.List.{List, ◌++◌}
-use Prim.Native.Nat.{ℕ}
+use mathlib.Core.Path.{refl, ap, ◌∙◌}
+use mathlib.Core.Bool.{not}
 use native.Mathlib.Omega.{arith}
-use Rattle.time_clock.specs.declared.Clock.{Clock}
+use Rattle.std.proofs.lemmas.Result.{err_from_is_err_and}
 use Rattle.frame.specs.Frame.{due, parse}
-use Rattle.segment.specs.Plain.{with_input}
-use Rattle.segment_send.specs.Steps.{handled_all}
-use Rattle.segment_send.specs.ProgramSend.{ComesOrStays}
 use Rattle.segment_send.proofs.DoneLaws.{sent_as, sent_none, sent_fits, sent_full}
 use Rattle.segment_send.proofs.SentLaws.{send_long, send_clock, send_settles}
 use Rattle.segment_image.specs.Image.{decode_image}
 use Rattle.segment_send.proofs.send.Goals as goal
-
--- what handling the piece came to, by what it answered
-came : (piece old new : List ℕ) (k : Clock) {r b : Bool} → r ≡ b → ComesOrStays (handled_all k (with_input ((decode_image old).input ++ piece) (decode_image old))) old r new
-    → ComesOrStays (handled_all k (with_input ((decode_image old).input ++ piece) (decode_image old))) old b new
-came piece old new k e x = subst (λ r. ComesOrStays (handled_all k (with_input ((decode_image old).input ++ piece) (decode_image old))) old r new) e x
 
 pub returns-then-piece-gt-PIECE : goal.returns-then-piece-gt-PIECE
 returns-then-piece-gt-PIECE c =
@@ -28,12 +18,14 @@ returns-then-not-good_clock c =
     let a = c.args in
     sent_none 14 (omega arith) (send_clock a.piece.now a.clock (decode_image a.image.now) c.if-piece-gt-PIECE.false c.good_clock.ensures (ap not c.if-not-good_clock.true))
 
-pub returns-then-not-handle_piece : goal.returns-then-not-handle_piece
-returns-then-not-handle_piece c =
+pub returns-in_err-handle_piece : goal.returns-in_err-handle_piece
+returns-in_err-handle_piece c =
     let a = c.args in
-    sent_as (send_settles a.piece.now a.clock (decode_image a.image.now) c.if-piece-gt-PIECE.false c.good_clock.ensures (ap not c.if-not-good_clock.false) refl) (sent_full (came a.piece.now a.image.now c.handle_piece.new.image a.clock c.if-not-handle_piece.true c.handle_piece.ensures))
+    let p = err_from_is_err_and c.from_residual.result c.from_residual.ensures.1 in
+    rw (p.1, p.2)
+    (sent_as (send_settles a.piece.now a.clock (decode_image a.image.now) c.if-piece-gt-PIECE.false c.good_clock.ensures (ap not c.if-not-good_clock.false) refl) (sent_full c.in_err-handle_piece.ensures))
 
 pub returns : goal.returns
 returns c =
     let a = c.args in
-    sent_as (send_settles a.piece.now a.clock (decode_image a.image.now) c.if-piece-gt-PIECE.false c.good_clock.ensures (ap not c.if-not-good_clock.false) refl) (sent_fits (came a.piece.now a.image.now c.handle_piece.new.image a.clock c.if-not-handle_piece.false c.handle_piece.ensures) (c.due_of.ensures ∙ ap (λ x. due (parse x)) c.waiting-waits.ensures))
+    sent_as (send_settles a.piece.now a.clock (decode_image a.image.now) c.if-piece-gt-PIECE.false c.good_clock.ensures (ap not c.if-not-good_clock.false) refl) (sent_fits c.in_ok-handle_piece.ensures (c.due_of.ensures ∙ ap (λ x. due (parse x)) c.waiting-waits.ensures))

@@ -6,14 +6,12 @@ use Rattle.segment_telegram.proofs.handle.Goals as goal
 pub returns-then-to_broadcast : goal.returns-then-to_broadcast
 returns-then-to_broadcast c =
     let a = c.args in
-    let d = a.«data».now in
-    handled_all_lem (telegram_of a.frame d) a.clock c.sweep-kept.ensures (sym c.if-to_broadcast.true ∙ c.to_broadcast.ensures d)
+    handled_all_lem (telegram_of a.frame) a.clock c.sweep-joining.ensures (sym c.if-to_broadcast.true ∙ c.to_broadcast.ensures)
 
 pub queue_reply-requires : goal.queue_reply-requires
-queue_reply-requires c = c.sweep-kept.ensures.joins.fits
+queue_reply-requires c = c.sweep-joining.ensures.joins.fits
 
-pub returns : goal.returns
-returns c =
+pub returns-else-to_broadcast : goal.returns-else-to_broadcast
+returns-else-to_broadcast c =
     let a = c.args in
-    let d = a.«data».now in
-    handled_queues (telegram_of a.frame d) a.clock c.sweep-kept.ensures (sym c.if-to_broadcast.false ∙ c.to_broadcast.ensures d) c.queue_reply.ensures
+    handled_queues (telegram_of a.frame) a.clock c.sweep-joining.ensures (sym c.if-to_broadcast.false ∙ c.to_broadcast.ensures) _ c.queue_reply.ensures

@@ -7,19 +7,20 @@ use Rattle.segment_places.specs.ProgramBecomes.{Queues}
 use borrow.Author.Rules.{rules}
 use Rattle.segment_telegram.proofs.queue_reply.Goals as goal
 
-pub returns-then-kept : goal.returns-then-kept
-returns-then-kept c =
-    let a = c.args in
-    subst (λ b. Queues (if b then replicate a.kept.count 0xE5 else take a.kept.len a.joined) a.image.now c.append_same.result c.append_same.new.image)
-    (sym c.if-kept.true) c.append_same.ensures
+pub returns-then-joining : goal.returns-then-joining
+returns-then-joining c =
+    let j = c.args.joining.now in
+    subst (λ b. Queues (if b then replicate j.count 0xE5 else take j.len j.bytes) c.args.image.now c.append_same.result c.append_same.new.image)
+    (sym c.if-joining.true) c.append_same.ensures
 
 pub slice_bounds-append-end : goal.slice_bounds-append-end
 slice_bounds-append-end c =
-    let long : length c.args.joined ≡ 96 = search rules in
-    sym (length-take-le c.args.kept.len c.args.joined (omega (arith, c.requires)))
+    let j = c.args.joining.now in
+    let long : length j.bytes ≡ 96 = search rules in
+    sym (length-take-le j.len j.bytes (omega (arith, c.requires)))
 
-pub returns : goal.returns
-returns c =
-    let a = c.args in
-    subst (λ b. Queues (if b then replicate a.kept.count 0xE5 else take a.kept.len a.joined) a.image.now c.append.result c.append.new.image)
-    (sym c.if-kept.false) c.append.ensures
+pub returns-else-joining : goal.returns-else-joining
+returns-else-joining c =
+    let j = c.args.joining.now in
+    subst (λ b. Queues (if b then replicate j.count 0xE5 else take j.len j.bytes) c.args.image.now c.append.result c.append.new.image)
+    (sym c.if-joining.false) c.append.ensures

@@ -4,4 +4,4 @@ use Rattle.test_bcd.proofs.test_bcd4.Goals as goal
 
 pub returns : goal.returns
 unfolding bcd
-returns c = rw (c.four.ensures, c.bcd4-b.ensures)
+returns c = rw (c.four.ensures, c.bcd4.ensures)

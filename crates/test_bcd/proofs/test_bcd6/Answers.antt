@@ -6,4 +6,4 @@ use Rattle.test_bcd.proofs.test_bcd6.Goals as goal
 
 pub returns : goal.returns
 unfolding number bcd
-returns c = rw (c.four-low.ensures, c.two-high.ensures, c.bcd6-b.ensures) (omega arith)
+returns c = rw (c.from-low.ensures, c.from-high.ensures, c.four.ensures, c.two.ensures, c.bcd6.ensures) (omega arith)

@@ -1,17 +1,16 @@
 -- `list::layout::layout` meets its contract.
-use borrow.Author.Rules.{rules}
-use mathlib.Core.Path.{◌∙◌}
-use Rattle.list.proofs.CountLaws.{shape_short, shape_version, shape_length, shape_records}
+use native.Mathlib.Omega.{arith}
+use Rattle.list.proofs.CountLaws.{layout_short, layout_version, layout_length, layout_records}
 use Rattle.list.proofs.layout.layout.Goals as goal
 
-pub returns-then-n-lt3 : goal.returns-then-n-lt3
-returns-then-n-lt3 c = shape_short _ (search rules)
+pub returns-in_default : goal.returns-in_default
+returns-in_default c = layout_short _ (omega arith)
 
-pub returns-then-list-ne1 : goal.returns-then-list-ne1
-returns-then-list-ne1 c = shape_version _ (search rules) c.if-list-ne1.true
+pub returns-then-version-ne1 : goal.returns-then-version-ne1
+returns-then-version-ne1 c = layout_version _ (omega arith) c.if-version-ne1.true
 
-pub returns-then-wide-n : goal.returns-then-wide-n
-returns-then-wide-n c = shape_length _ (search rules) c.if-list-ne1.false (search rules)
+pub returns-then-from-records : goal.returns-then-from-records
+returns-then-from-records c = layout_length _ (omega arith) c.if-version-ne1.false (omega (arith, c.from_be_bytes.ensures, c.from.ensures)) c.if-from-records.true
 
 pub returns : goal.returns
-returns c = c.count_from.ensures ∙ shape_records _ (search rules) c.if-list-ne1.false (search rules)
+returns c = layout_records _ (omega arith) c.if-version-ne1.false (omega (arith, c.from_be_bytes.ensures, c.from.ensures)) c.if-from-records.false c.count.ensures

@@ -4,29 +4,26 @@ use mathlib.Core.Path.{refl}
 use Rattle.list_check.proofs.CheckLaws.{id_length, id_digit, digits_none, digits_room, digits_more, digits_all}
 use Rattle.list_check.proofs.check.digits_in.Goals as goal
 
-pub loop-i-init : goal.loop-i-init
-loop-i-init c = digits_none _ _
+pub loop-c-init : goal.loop-c-init
+loop-c-init c = digits_none _ _
 
 pub overflow_mul-n : goal.overflow_mul-n
-overflow_mul-n c = omega (arith, (digits_room c.loop-i.invariant c.requires.0 0 (omega arith) (omega arith)).product)
+overflow_mul-n c = omega (arith, (digits_room c.loop-c.invariant c.requires.0 0 (omega (arith, id_length _ c.requires.1)) (omega arith)).product)
 
-pub bounds-t-i : goal.bounds-t-i
-bounds-t-i c = omega (arith, id_length _ c.requires.1)
-
-pub digit-requires : goal.digit-requires
-digit-requires c = id_digit _ c.loop-i.i c.requires.1 (omega arith)
+pub overflow_sub-c : goal.overflow_sub-c
+overflow_sub-c c = (id_digit _ c.loop-c.c-index c.requires.1 (omega (arith, id_length _ c.requires.1))).0
 
 pub overflow_add-n : goal.overflow_add-n
-overflow_add-n c = omega (arith, (digits_room c.loop-i.invariant c.requires.0 c.digit.result (omega arith) c.digit.ensures.1).sum)
+overflow_add-n c =
+    let l = id_length _ c.requires.1 in
+    let d = id_digit _ c.loop-c.c-index c.requires.1 (omega arith) in
+    omega (arith, (digits_room c.loop-c.invariant c.requires.0 c.from.result (omega arith) (omega (arith, c.from.ensures))).sum)
 
-pub overflow_add-i : goal.overflow_add-i
-overflow_add-i c = omega arith
-
-pub loop-i-smaller : goal.loop-i-smaller
-loop-i-smaller c = omega arith
-
-pub loop-i-preserved : goal.loop-i-preserved
-loop-i-preserved c = digits_more c.loop-i.invariant c.requires.0 (omega arith) (id_length _ c.requires.1) c.digit.ensures.1 c.digit.ensures.0 refl
+pub loop-c-preserved : goal.loop-c-preserved
+loop-c-preserved c =
+    let l = id_length _ c.requires.1 in
+    let d = id_digit _ c.loop-c.c-index c.requires.1 (omega arith) in
+    digits_more c.loop-c.invariant c.requires.0 (omega arith) l (omega (arith, c.from.ensures)) c.from.ensures refl
 
 pub returns : goal.returns
-returns c = digits_all c.loop-i.invariant c.requires.0 (id_length _ c.requires.1) (omega arith)
+returns c = digits_all c.loop-c.invariant c.requires.0 (id_length _ c.requires.1) (omega (arith, id_length _ c.requires.1))

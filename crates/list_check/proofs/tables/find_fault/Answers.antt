@@ -1,13 +1,15 @@
 -- `list_check::tables::find_fault` meets its contract.
-use mathlib.Core.Path.{refl}
+use borrow.Author.Rules.{rules}
+use mathlib.Core.Path.{ap, ◌∙◌}
+use Rattle.std.specs.Prelude.{option_map}
+use Rattle.std.specs.Borrow.{Bor}
+use Rattle.meter.specs.declared.Fault.{Fault}
 use Rattle.list_check.specs.Tables.{faults}
-use Rattle.list_check.specs.ProgramKeys.{keys_of, fault_keys}
-use Rattle.list_check.proofs.KeyLaws.{key_table}
+use Rattle.list_check.specs.ProgramKeys.{fault_row_of}
+use Rattle.list_check.specs.declared.tables.Keyed.{Keyed}
+use Rattle.list_check.proofs.KeyLaws.{found_fault, row_under}
 use Rattle.list_check.proofs.tables.find_fault.Goals as goal
 
-pub find_key-requires : goal.find_key-requires
-find_key-requires c = key_table _ 7 refl refl
-
 pub returns : goal.returns
-unfolding keys_of faults fault_keys
-returns c = c.find_key.ensures
+unfolding faults
+returns c = row_under fault_row_of (λ (row : Bor (Keyed Fault)). row.now) _ ∙ ap (option_map fault_row_of) c.row_with.ensures ∙ search (rules, found_fault)

@@ -1,6 +1,7 @@
 -- `list_write::front::front_of` meets its contract.
 use mathlib.Core.Path.{refl, ap, ◌∙◌}
 use Prim.Native.Nat.{◌/◌, ◌%◌}
+use lib.ListN.{get_or}
 use Rattle.meter_identity.specs.Identity.{digits_of_value}
 use Rattle.list_write.specs.Record.{record_for}
 use Rattle.list_write.specs.ProgramRecord.{front_of_value}
@@ -10,12 +11,13 @@ use Rattle.list_write.proofs.front.front_of.Goals as goal
 pub returns : goal.returns
 unfolding front_of_value record_for digits_of_value
 returns c =
-    let own = c.own_baud-baud.ensures in
+    let own = c.own_baud.ensures in
+    let e = c.to_be_bytes.ensures in
     and_then refl (and_then refl
-    (and_then (c.low.ensures ∙ ap (λ b. b / 0x1000000 % 256) own)
-    (and_then (c.low-2.ensures ∙ ap (λ b. b / 0x10000 % 256) own)
-    (and_then (c.low-3.ensures ∙ ap (λ b. b / 0x100 % 256) own)
-    (and_then (c.low-4.ensures ∙ ap (λ b. b % 256) own)
+    (and_then (ap (λ l. get_or l 0 0) e ∙ ap (λ b. b / 0x1000000 % 256) own)
+    (and_then (ap (λ l. get_or l 1 0) e ∙ ap (λ b. b / 0x10000 % 256) own)
+    (and_then (ap (λ l. get_or l 2 0) e ∙ ap (λ b. b / 0x100 % 256) own)
+    (and_then (ap (λ l. get_or l 3 0) e ∙ ap (λ b. b % 256) own)
     (and_then refl
     (and_then c.digit.ensures
     (and_then c.digit-2.ensures

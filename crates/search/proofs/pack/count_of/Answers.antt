@@ -1,5 +1,6 @@
+use mathlib.Core.Path.{◌∙◌}
 use Rattle.search.proofs.PackLaws.{counted}
 use Rattle.search.proofs.pack.count_of.Goals as goal
 
-pub returns-else-front-eq0 : goal.returns-else-front-eq0
-returns-else-front-eq0 c = counted c.args.front c.if-front-eq0.false
+pub returns : goal.returns
+returns c = c.max.ensures ∙ counted c.args.front

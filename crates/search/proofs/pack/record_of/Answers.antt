@@ -3,4 +3,4 @@ use Rattle.search.proofs.pack.record_of.Goals as goal
 
 pub returns : goal.returns
 unfolding record_in
-returns c = λ i. record { kind = c.kind_of-kind.ensures i; digits = c.digits_of-digits.ensures i; count = c.count_of-count.ensures i }
+returns c = λ i. record { kind = c.kind_of.ensures i; digits = c.digits_of.ensures i; count = c.count_of.ensures i }

@@ -5,41 +5,16 @@ use Rattle.list_open.specs.Opening.{capacity}
 use Rattle.search.proofs.PackLaws.{mapped_none, mapped_more, mapped_first}
 use Rattle.search.proofs.pack.records_of.Goals as goal
 
-pub blank_records-records-requires : goal.blank_records-records-requires
-blank_records-records-requires c = tt
-
-pub least-end-requires : goal.least-end-requires
-least-end-requires c = tt
-
 pub loop-i-init : goal.loop-i-init
 unfolding capacity
-loop-i-init c = (omega arith, omega arith, search rules, search rules, mapped_none)
-
-pub offset_bounds-entries-i : goal.offset_bounds-entries-i
-offset_bounds-entries-i c = omega arith
-
-pub bounds-entries-i : goal.bounds-entries-i
-bounds-entries-i c = omega arith
-
-pub record_of-e-requires : goal.record_of-e-requires
-record_of-e-requires c = tt
-
-pub offset_bounds-records-i : goal.offset_bounds-records-i
-offset_bounds-records-i c = omega arith
-
-pub bounds-records-i : goal.bounds-records-i
-bounds-records-i c = omega arith
-
-pub overflow_add-i : goal.overflow_add-i
-overflow_add-i c = omega arith
-
-pub loop-i-smaller : goal.loop-i-smaller
-loop-i-smaller c = omega arith
+loop-i-init c = record { few = omega (arith, c.min-i-end.ensures); places = (search rules, search rules); mapped = mapped_none }
 
 pub loop-i-preserved : goal.loop-i-preserved
 loop-i-preserved c =
-    (omega arith, c.loop-i.invariant.1, c.loop-i.invariant.2, c.loop-i.invariant.3, mapped_more c.loop-i.invariant.4 _ (omega arith) (omega arith) c.record_of-e.ensures)
+    let inv = c.loop-i.invariant in
+    record { few = inv.few; places = inv.places; mapped = mapped_more inv.mapped _ (omega arith) (omega arith) c.record_of.ensures }
 
 pub returns : goal.returns
+unfolding capacity
 returns c =
-    mapped_first c.loop-i.invariant.4 (min c.args.found capacity) (omega arith) (omega arith)
+    mapped_first c.loop-i.invariant.mapped (min c.args.found capacity) (omega (arith, c.min-i-end.ensures)) (omega arith)

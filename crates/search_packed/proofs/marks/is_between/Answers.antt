@@ -15,4 +15,4 @@ between low high x r h k l m e = go (leb low x) refl (leb x high) refl
 pub returns : goal.returns
 returns c =
     let a = c.args in
-    between a.low a.high a.x c.wrapping_sub_u32.result c.requires (search rules) (search rules) (search rules) c.wrapping_sub_u32.ensures.value
+    between a.low a.high a.x _ c.requires (search rules) (search rules) (search rules) (search rules)

@@ -1,23 +1,15 @@
-use Rattle.std.proofs.Common.{sym, ◌∙◌, le-ltb, lt-ltb, eq-eqb, ne_eqb}
-use Rattle.search_packed.specs.ProgramMarks.{read_key_value, readable}
+use Rattle.std.proofs.Common.{sym, ◌∙◌, eq-eqb, ne_eqb}
+use Rattle.search_packed.specs.ProgramMarks.{read_key_value}
+use Rattle.search_packed.proofs.marks.read_key.Goals.{else-yes_of-eq1-via-then-yes_of-eq1+else-is_readable, else-yes_of-eq1-via-else-yes_of-eq1}
 use Rattle.search_packed.proofs.marks.read_key.Goals as goal
 
-pub returns-then-mark-eq0-2 : goal.returns-then-mark-eq0-2
-unfolding read_key_value readable
-returns-then-mark-eq0-2 c = simp (eq-eqb _ _ (sym c.yes_of-yes.ensures.0 ∙ c.if-yes-eq1.true), eq-eqb _ _ c.if-mark-eq0.true, eq-eqb _ _ c.if-mark-eq0-2.true)
+pub returns-then-is_readable : goal.returns-then-is_readable
+unfolding read_key_value
+returns-then-is_readable c = simp (eq-eqb _ _ (sym c.yes_of.ensures.0 ∙ c.if-yes_of-eq1.true), sym c.is_readable.ensures ∙ c.if-is_readable.true, c.from.ensures)
 
-pub returns-then-mark-lt2 : goal.returns-then-mark-lt2
-unfolding read_key_value readable
-returns-then-mark-lt2 c = simp (eq-eqb _ _ (sym c.yes_of-yes.ensures.0 ∙ c.if-yes-eq1.true), eq-eqb _ _ c.if-mark-eq0.true, ne_eqb _ _ c.if-mark-eq0-2.false, lt-ltb _ _ c.if-mark-lt2.true)
-
-pub returns-else-mark-lt2 : goal.returns-else-mark-lt2
-unfolding read_key_value readable
-returns-else-mark-lt2 c = simp (eq-eqb _ _ (sym c.yes_of-yes.ensures.0 ∙ c.if-yes-eq1.true), eq-eqb _ _ c.if-mark-eq0.true, ne_eqb _ _ c.if-mark-eq0-2.false, le-ltb _ _ c.if-mark-lt2.false)
-
-pub returns-else-mark-eq0 : goal.returns-else-mark-eq0
-unfolding read_key_value readable
-returns-else-mark-eq0 c = simp (eq-eqb _ _ (sym c.yes_of-yes.ensures.0 ∙ c.if-yes-eq1.true), ne_eqb _ _ c.if-mark-eq0.false)
-
-pub returns-else-yes-eq1 : goal.returns-else-yes-eq1
-unfolding read_key_value readable
-returns-else-yes-eq1 c = simp (ne_eqb _ _ (λ e. c.if-yes-eq1.false (c.yes_of-yes.ensures.0 ∙ e)))
+pub returns-else-yes_of-eq1 : goal.returns-else-yes_of-eq1
+unfolding read_key_value
+returns-else-yes_of-eq1 c = elim c.else-yes_of-eq1.branch [
+  | else-yes_of-eq1-via-then-yes_of-eq1+else-is_readable w ↦ simp (eq-eqb _ _ (sym c.yes_of.ensures.0 ∙ w.if-yes_of-eq1.true), sym w.is_readable.ensures ∙ w.if-is_readable.false)
+  | else-yes_of-eq1-via-else-yes_of-eq1 w ↦ simp (ne_eqb _ _ (λ e. w.if-yes_of-eq1.false (c.yes_of.ensures.0 ∙ e)))
+]

@@ -9,4 +9,4 @@ returns-then-yes-eq0 c = simp (eq-eqb _ _ (sym c.yes_of-yes.ensures.0 ∙ c.if-y
 pub returns : goal.returns
 unfolding read_mark_value
 returns c =
-    simp (ne_eqb _ _ (λ e. c.if-yes-eq0.false (c.yes_of-yes.ensures.0 ∙ e)), c.hears_of-hears.ensures.0, c.wrapping_add_u8-access.ensures.value, c.readouts.ensures)
+    simp (ne_eqb _ _ (λ e. c.if-yes-eq0.false (c.yes_of-yes.ensures.0 ∙ e)), c.hears_of-hears.ensures.0, c.readouts.ensures)

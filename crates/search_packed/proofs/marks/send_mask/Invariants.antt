@@ -1,11 +1,7 @@
-use Rattle.std.proofs.Common.{◌≡◌, ◌-◌, ◌≤◌, length}
-use Rattle.list_open.specs.Opening.{capacity}
+use Rattle.std.proofs.Common.{◌≤◌}
 use Rattle.search_packed.specs.ProgramMarks.{masked, acked}
 use Rattle.search_packed.proofs.MarkSweep.{Sweep}
 use Rattle.search_packed.proofs.marks.send_mask.Given as goal
 
 abbrev pub invariant-loop-i : goal.invariant-loop-i
-invariant-loop-i l = (l.i ≤ capacity) × (l.acks ≤ l.i) × (length l.keys ≡ capacity) × (length l.initial.marks ≡ capacity) × (l.low ≤ l.high) × Sweep (masked l.low l.high) (acked l.low l.high) 0 l.keys l.initial.marks l.i l.marks l.acks
-
-abbrev pub decreases-loop-i : goal.decreases-loop-i
-decreases-loop-i l = capacity - l.i
+invariant-loop-i l = (l.acks ≤ l.i) × (l.low ≤ l.high) × Sweep (masked l.low l.high) (acked l.low l.high) 0 l.keys l.initial.marks l.i l.marks l.acks

@@ -7,13 +7,13 @@ use Rattle.segment_image.proofs.MeterByteLaws.{meter-is, blank-is, few, enough}
 use Rattle.segment_image.proofs.meters.read_meter.Goals as goal
 
 pub returns-then-bs-lt25 : goal.returns-then-bs-lt25
-returns-then-bs-lt25 c = ap plain_meter c.blank_meter.ensures ∙ blank-is ∙ ap decode_meter (sym (few c.args.bs.now c.if-bs-lt25.true))
+returns-then-bs-lt25 c = ap plain_meter c.default.ensures ∙ blank-is ∙ ap decode_meter (sym (few c.args.bs.now c.if-bs-lt25.true))
 
 pub returns : goal.returns
 unfolding number
 returns c =
     let bs = c.args.bs.now in
     sym
-    (meter-is bs _ refl (sym c.four.ensures) (sym c.two.ensures) refl refl (sym c.model.ensures) (sym c.fault.ensures) refl
-    (sym c.four-3.ensures) (sym c.flag.ensures) refl (sym c.last.ensures) refl (sym c.four-2.ensures) (sym c.flag-2.ensures))
+    (meter-is bs _ refl (sym c.four.ensures) (sym c.two.ensures) refl refl (sym c.from.ensures) (sym c.from-2.ensures) refl
+    (sym c.four-3.ensures) refl refl (sym c.last.ensures) refl (sym c.four-2.ensures) refl)
     ∙ ap decode_meter (sym (enough bs c.if-bs-lt25.false))

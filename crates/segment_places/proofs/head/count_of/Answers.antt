@@ -8,4 +8,4 @@ pub returns : goal.returns
 unfolding capacity
 returns c =
     let l = c.args.image.now in
-    c.least.ensures ∙ ap (λ n. min n 64) c.two_at.ensures ∙ sym (meters_count l)
+    c.min.ensures ∙ ap (λ n. min n 64) c.two_at.ensures ∙ sym (meters_count l)

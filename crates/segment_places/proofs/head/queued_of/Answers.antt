@@ -7,4 +7,4 @@ use Rattle.segment_places.proofs.head.queued_of.Goals as goal
 pub returns : goal.returns
 returns c =
     let l = c.args.image.now in
-    c.least.ensures ∙ ap (λ n. min n 4096) c.two_at.ensures ∙ sym (queue_count l (search rules))
+    c.min.ensures ∙ ap (λ n. min n 4096) c.two_at.ensures ∙ sym (queue_count l (search rules))

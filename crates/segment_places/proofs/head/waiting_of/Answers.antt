@@ -7,4 +7,4 @@ use Rattle.segment_places.proofs.head.waiting_of.Goals as goal
 pub returns : goal.returns
 returns c =
     let l = c.args.image.now in
-    c.least.ensures ∙ ap (λ n. min n 260) c.two_at.ensures ∙ sym (input_count l (search rules))
+    c.min.ensures ∙ ap (λ n. min n 260) c.two_at.ensures ∙ sym (input_count l (search rules))

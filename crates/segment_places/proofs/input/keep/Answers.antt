@@ -12,11 +12,11 @@ slice_bounds-put_input-end c = sym (length-take-le _ _ (omega arith))
 
 pub put_input-requires : goal.put_input-requires
 put_input-requires c =
-    let n = c.least-n in
+    let n = c.min-n in
     omega (arith, n.ensures, length-take-le n.result c.args.rest.now (omega (arith, n.ensures)))
 
 pub returns : goal.returns
 returns c =
-    let n = c.least-n in
+    let n = c.min-n in
     let a = c.args in
     becomes_as (ap (λ xs. with_input xs (decode_image a.image.now)) (take_least 260 n.result a.rest.now n.ensures)) c.put_input.ensures

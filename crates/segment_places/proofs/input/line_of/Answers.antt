@@ -1,9 +1,9 @@
 use borrow.Author.Rules.{rules}
 use mathlib.Core.Path.{◌≡◌, sym, ap, ◌∙◌}
 use mathlib.Core.List.{◌++◌}
-use Prim.Native.Nat.{◌+◌, ◌-◌}
+use Prim.Native.Nat.{ℕ, ◌+◌, ◌-◌}
 use native.Mathlib.Omega.{arith}
-use lib.ListN.{length, take, drop}
+use lib.ListN.{length, take, drop, replicate, length-replicate}
 use lib.Seq.{paste}
 use Rattle.segment_image.specs.Image.{decode_image}
 use Rattle.segment_places.proofs.PlaceLaws.{input_short}
@@ -20,25 +20,25 @@ pub put-requires : goal.put-requires
 put-requires c =
     let waits : let a = c.args in
     take (18 + a.waiting - 18) (drop 18 a.image.now) ≡ (decode_image a.image.now).input = input_is c.args.image.now c.args.waiting (search rules) c.requires.0 in
-    let room : length c.blank_line-line.result ≡ 1284 = search rules in
+    let room : length {A = ℕ} (replicate 1284 0) ≡ 1284 = length-replicate {A = ℕ} 1284 0 in
     omega (arith, ap length waits, input_short c.args.image.now)
 
 pub put-requires-2 : goal.put-requires-2
 put-requires-2 c =
     let waits : let a = c.args in
     take (18 + a.waiting - 18) (drop 18 a.image.now) ≡ (decode_image a.image.now).input = input_is c.args.image.now c.args.waiting (search rules) c.requires.0 in
-    let room : length c.blank_line-line.result ≡ 1284 = search rules in
+    let room : length {A = ℕ} (replicate 1284 0) ≡ 1284 = length-replicate {A = ℕ} 1284 0 in
     let e = ap length waits in
     let few = input_short c.args.image.now in
     let first = take (18 + c.args.waiting - 18) (drop 18 c.args.image.now) in
-    omega (arith, ap length c.put.ensures, line_long c.blank_line-line.result first c.args.piece.now c.args.waiting (c.requires.0 ∙ sym e) (omega arith))
+    omega (arith, ap length c.put.ensures, line_long (replicate 1284 0) first c.args.piece.now c.args.waiting (c.requires.0 ∙ sym e) (omega arith))
 
 pub returns : goal.returns
 returns c =
     let waits : let a = c.args in
     take (18 + a.waiting - 18) (drop 18 a.image.now) ≡ (decode_image a.image.now).input = input_is c.args.image.now c.args.waiting (search rules) c.requires.0 in
-    let b = c.blank_line-line.result in
-    let room : length b ≡ 1284 = search rules in
+    let b = replicate 1284 0 in
+    let room : length b ≡ 1284 = length-replicate {A = ℕ} 1284 0 in
     let e = ap length waits in
     let few = input_short c.args.image.now in
     let piece = c.args.piece.now in

@@ -14,10 +14,9 @@ returns c =
     let l = c.args.image.now in
     let r = c.args.rest.now in
     let long : length l ≡ 5974 = search rules in
-    let w : length c.nothing-none.result ≡ 260 = search rules in
     subst (Becomes l (with_input r (decode_image l)))
     (sym
     (c.put_two.ensures
     ∙ ap (λ x. paste x 14 (little 2 (length r)) 2)
-    (c.put-2.ensures ∙ ap (λ x. paste x 18 r (length r)) (c.put.ensures ∙ ap (paste l 18 c.nothing-none.result) w ∙ ap (λ x. paste l 18 x 260) c.nothing-none.ensures))))
+    (c.put.ensures ∙ ap (λ x. paste x 18 r (length r)) c.fill.ensures)))
     (input_becomes l r (length r) long refl c.requires)

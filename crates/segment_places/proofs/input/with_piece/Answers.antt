@@ -9,17 +9,17 @@ use Rattle.segment_places.proofs.QueueLaws.{take_least}
 use Rattle.segment_places.proofs.input.with_piece.Goals as goal
 
 pub slice_bounds-line_of-end : goal.slice_bounds-line_of-end
-slice_bounds-line_of-end c = sym (length-take-le _ _ (omega (arith, c.least-n.ensures)))
+slice_bounds-line_of-end c = sym (length-take-le _ _ (omega (arith, c.min-n.ensures)))
 
 pub line_of-requires : goal.line_of-requires
 line_of-requires c =
-    let n = c.least-n in
+    let n = c.min-n in
     let w = length-take-le n.result c.args.piece.now (omega (arith, n.ensures)) in
     (c.waiting_of.ensures, omega (arith, n.ensures, w))
 
 pub returns : goal.returns
 returns c =
-    let n = c.least-n in
+    let n = c.min-n in
     let a = c.args in
     let piece = a.piece.now in
     let s = decode_image a.image.now in

@@ -1,38 +1,18 @@
-use mathlib.Core.Path.{◌≡◌, refl, sym, ap, ◌∙◌}
-use Prim.Native.Nat.{ℕ}
+use mathlib.Core.Path.{◌≡◌, sym, ap, ◌∙◌}
+use Prim.Native.Nat.{ℕ, ◌+◌, ◌-◌}
 use native.Mathlib.Omega.{arith}
-use lib.ListN.{replicate, length-set, length-replicate, get_or-replicate}
-use lib.Seq.{paste}
-use Rattle.laws.proofs.Copying.{copied_none, copied_more}
+use mathlib.Core.List.{List}
+use lib.ListN.{length, take, drop, replicate, length-replicate, length-take, length-drop}
+use lib.Seq.{take_all}
+use borrow.Author.Rules.{rules}
+use Rattle.segment_image.proofs.Blocks.{put_over}
 use Rattle.segment_places.proofs.place.fill.Goals as goal
-
-pub loop-j-init : goal.loop-j-init
-loop-j-init c = (omega arith, c.requires, refl, copied_none)
-
-pub overflow_add-image : goal.overflow_add-image
-overflow_add-image c = omega arith
-
-pub bounds-image-p : goal.bounds-image-p
-bounds-image-p c = omega arith
-
-pub overflow_add-j : goal.overflow_add-j
-overflow_add-j c = omega arith
-
-pub loop-j-smaller : goal.loop-j-smaller
-loop-j-smaller c = omega arith
-
-pub loop-j-preserved : goal.loop-j-preserved
-loop-j-preserved c =
-    let a = c.args in
-    let at = c.loop-j in
-    let inv = at.invariant in
-    (omega arith, inv.1, simp length-set inv.2, copied_more 0 inv.3 refl (omega arith) (omega (arith, length-replicate {A = ℕ} a.n a.b)) (sym (get_or-replicate a.n at.j a.b 0 (omega arith))))
-
-pub shape_of-image : goal.shape_of-image
-shape_of-image c = c.loop-j.invariant.2
 
 pub returns : goal.returns
 returns c =
     let a = c.args in
-    let e : c.loop-j.j ≡ a.n = omega arith in
-    c.loop-j.invariant.3.is ∙ ap (paste a.image.now a.p (replicate a.n a.b)) e
+    let bs : List ℕ = replicate a.n a.b in
+    let part = take (a.p + a.n - a.p) (drop a.p a.image.now) in
+    let e : length part ≡ a.n = simp (length-take, length-drop) (omega arith) in
+    put_over _ bs _ a.p _ a.n
+    (c.fill.ensures.after (search rules) ∙ ap (λ (k : ℕ). replicate k a.b) e ∙ sym (take_all a.n bs (omega (arith, length-replicate {A = ℕ} a.n a.b)))) (omega arith)

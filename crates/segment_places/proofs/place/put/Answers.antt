@@ -1,6 +1,10 @@
-use Rattle.laws.proofs.Copying.{copied_into}
+use mathlib.Core.Path.{◌∙◌, sym}
+use native.Mathlib.Omega.{arith}
+use lib.Seq.{take-length}
+use Rattle.segment_image.proofs.Blocks.{put_over}
 use Rattle.segment_places.proofs.place.put.Goals as goal
 
 pub returns : goal.returns
 returns c =
-    copied_into _ c.args.bytes.now _ c.args.p c.requires c.copy.ensures.bytes
+    let a = c.args in
+    put_over _ a.bytes.now _ a.p _ _ (c.copy_from_slice.ensures.after ∙ sym (take-length a.bytes.now)) (omega arith)

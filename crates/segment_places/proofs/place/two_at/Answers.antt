@@ -5,4 +5,4 @@ use Rattle.segment_places.proofs.place.two_at.Goals as goal
 pub returns : goal.returns
 returns c =
     let a = c.args in
-    c.two.ensures ∙ two_bytes a.p a.image.now
+    c.from.ensures ∙ c.two.ensures ∙ two_bytes a.p a.image.now

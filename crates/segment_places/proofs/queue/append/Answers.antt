@@ -1,5 +1,5 @@
 use mathlib.Core.Path.{◌≡◌, refl, sym, ap, subst, ◌∙◌}
-use mathlib.Core.Bool.{true}
+use Rattle.std.specs.Prelude.{Ok}
 use Prim.Native.Nat.{◌+◌}
 use native.Mathlib.Omega.{arith}
 use lib.ListN.{length}
@@ -38,5 +38,5 @@ returns c =
     let n = length a.more.now in
     let w : length b ≡ n = refl in
     let long : length l ≡ 5974 = search rules in
-    subst (Queues b l true) (sym (c.put_two.ensures ∙ ap (λ x. paste x 16 (little 2 (q.result + n)) 2) c.put.ensures))
+    subst (Queues b l (Ok tt)) (sym (c.put_two.ensures ∙ ap (λ x. paste x 16 (little 2 (q.result + n)) 2) c.put.ensures))
     (queues (queue_becomes l b q.result n long q.ensures w (omega (arith, q.ensures, queue_short l))))

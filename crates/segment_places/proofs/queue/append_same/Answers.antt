@@ -1,5 +1,5 @@
 use mathlib.Core.Path.{◌≡◌, sym, ap, subst, ◌∙◌}
-use mathlib.Core.Bool.{true}
+use Rattle.std.specs.Prelude.{Ok}
 use Prim.Native.Nat.{ℕ, ◌+◌}
 use native.Mathlib.Omega.{arith}
 use lib.ListN.{length, replicate, length-replicate}
@@ -38,5 +38,5 @@ returns c =
     let n = a.n in
     let w : length b ≡ n = length-replicate {A = ℕ} a.n a.b in
     let long : length l ≡ 5974 = search rules in
-    subst (Queues b l true) (sym (c.put_two.ensures ∙ ap (λ x. paste x 16 (little 2 (q.result + n)) 2) c.fill.ensures))
+    subst (Queues b l (Ok tt)) (sym (c.put_two.ensures ∙ ap (λ x. paste x 16 (little 2 (q.result + n)) 2) c.fill.ensures))
     (queues (queue_becomes l b q.result n long q.ensures w (omega (arith, q.ensures, queue_short l))))

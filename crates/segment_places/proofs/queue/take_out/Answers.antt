@@ -11,4 +11,4 @@ pub returns : goal.returns
 returns c =
     let a = c.args in
     let s = decode_image a.image.now in
-    becomes_as (ap (λ xs. with_queue xs s) (ap (λ k. drop k s.queue) (c.least.ensures ∙ ap (min a.n) c.queued_of-queued.ensures) ∙ drop_min a.n s.queue)) c.shorten.ensures
+    becomes_as (ap (λ xs. with_queue xs s) (ap (λ k. drop k s.queue) (c.min.ensures ∙ ap (min a.n) c.queued_of-queued.ensures) ∙ drop_min a.n s.queue)) c.shorten.ensures

@@ -8,4 +8,4 @@ overflow_sub-queued c = omega (arith, c.queued_of-queued.ensures, queue_short c.
 
 pub returns-then-bytes-queued : goal.returns-then-bytes-queued
 returns-then-bytes-queued c =
-    comes_surely c.handle_in_turn.ensures (omega (arith, c.if-bytes-queued.true, c.queued_of-queued.ensures, queue_short c.args.image.now))
+    comes_surely _ c.handle_in_turn.ensures (omega (arith, c.if-bytes-queued.true, c.queued_of-queued.ensures, queue_short c.args.image.now))

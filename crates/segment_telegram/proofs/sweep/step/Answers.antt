@@ -29,7 +29,7 @@ returns-in-Silent c =
     let l = a.image.now in
     let h = c.hear-h.result in
     let since = elapsed_of_value a.clock.now (decode_image l).origin in
-    let way : PlainMeter → Heard = hear a.bus (telegram_of a.frame a.«data».now) since a.clock in
+    let way : PlainMeter → Heard = hear a.bus (telegram_of a.frame) since a.clock in
     let heard : heard_of since a.clock h ≡ way (meter_in a.i l) = c.hear-h.ensures since a.clock ∙ ap way c.meter_at-m.ensures in
     let said = ap (λ x. with_reply (reply_of x since a.clock (plain_meter h.meter)) []) (sym c.in-Silent.is) ∙ ap (λ x. replies (x ∷ [])) heard in
     record { becomes = changed way a.i l _ _ heard c.put_meter.ensures; joins = λ rs j. joins_as rs said (joins_still rs j) }
@@ -40,7 +40,7 @@ returns-in-Ack c =
     let l = a.image.now in
     let h = c.hear-h.result in
     let since = elapsed_of_value a.clock.now (decode_image l).origin in
-    let way : PlainMeter → Heard = hear a.bus (telegram_of a.frame a.«data».now) since a.clock in
+    let way : PlainMeter → Heard = hear a.bus (telegram_of a.frame) since a.clock in
     let heard : heard_of since a.clock h ≡ way (meter_in a.i l) = c.hear-h.ensures since a.clock ∙ ap way c.meter_at-m.ensures in
     let said = ap (λ x. with_reply (reply_of x since a.clock (plain_meter h.meter)) []) (sym c.in-Ack.is) ∙ ap (λ x. replies (x ∷ [])) heard in
     record { becomes = changed way a.i l _ _ heard c.put_meter.ensures; joins = λ rs j. joins_as rs said (joins_acked c.requires j c.join_ack.ensures) }
@@ -51,7 +51,7 @@ returns-in-Readout c =
     let l = a.image.now in
     let h = c.hear-h.result in
     let since = elapsed_of_value a.clock.now (decode_image l).origin in
-    let way : PlainMeter → Heard = hear a.bus (telegram_of a.frame a.«data».now) since a.clock in
+    let way : PlainMeter → Heard = hear a.bus (telegram_of a.frame) since a.clock in
     let heard : heard_of since a.clock h ≡ way (meter_in a.i l) = c.hear-h.ensures since a.clock ∙ ap way c.meter_at-m.ensures in
     let said = ap (λ x. with_reply (reply_of x since a.clock (plain_meter h.meter)) []) (sym c.in-Readout.is) ∙ ap (λ x. replies (x ∷ [])) heard in
     let then = c.elapsed_of.ensures ∙ ap (elapsed_of_value a.clock.now) (ap (λ (p : Plain). p.origin) c.put_meter.ensures.means) in

@@ -10,7 +10,7 @@ use Rattle.segment_telegram.proofs.sweep.sweep.Given as goal
 
 abbrev pub invariant-loop-i : goal.invariant-loop-i
 invariant-loop-i l =
-    (l.i ≤ l.end) × (l.end ≡ length (decode_image l.initial.image).meters) × Sweeping (hear l.bus (telegram_of l.frame l.data) (elapsed_of_value l.clock.now (decode_image l.initial.image).origin) l.clock) l.initial.image l.i l.image l.kept l.joined
+    (l.from ≤ l.end) × (l.end ≡ length (decode_image l.initial.image).meters) × Sweeping (hear l.bus (telegram_of l.frame) (elapsed_of_value l.clock.now (decode_image l.initial.image).origin) l.clock) l.initial.image l.from l.image l.joining
 
 abbrev pub decreases-loop-i : goal.decreases-loop-i
-decreases-loop-i l = l.end - l.i
+decreases-loop-i l = l.end - l.from

@@ -1,9 +1,0 @@
--- The place of the last digit put, within the buffer; each round goes one place back.
-use Rattle.std.proofs.Common.{◌≤◌}
-use Rattle.test_replay.proofs.print.hex_from.Given as goal
-
-abbrev pub invariant-loop-at : goal.invariant-loop-at
-invariant-loop-at l = l.at ≤ 16
-
-abbrev pub decreases-loop-at : goal.decreases-loop-at
-decreases-loop-at l = l.at
