@@ -11,8 +11,9 @@ ghost use Rattle.c_frame.specs.Telegrams.{why_number_value, head_of, telegram_by
 
 use frame::{Frame, ParseOutcome, Why};
 use frame_write::WriteError;
+use laws::answer::Numbered;
 
-// The C interface gives the reasons these numbers.
+// The reasons by their numbers in the C interface.
 fn why_number(why: Why) -> u32
     ensures { result ≡ why_number_value (why_of why) }
 {
@@ -37,7 +38,7 @@ fn head_of(frame: Frame<'_>) -> [u8; 4]
             control,
             address,
             ci,
-            data: _,
+            ..
         } => [2, control, address, ci],
     }
 }
@@ -47,8 +48,8 @@ fn description(head: [u8; 4], count: usize, used: usize) -> [u8; 16]
     ensures { result ≡ head ++ little 4 count ++ little 4 used ++ 0 ∷ 0 ∷ 0 ∷ 0 ∷ [] }
 {
     let [kind, control, address, ci] = head;
-    let [n0, n1, n2, n3] = numbers::le4(count as u64);
-    let [u0, u1, u2, u3] = numbers::le4(used as u64);
+    let [n0, n1, n2, n3, ..] = count.to_le_bytes();
+    let [u0, u1, u2, u3, ..] = used.to_le_bytes();
     [
         kind, control, address, ci, n0, n1, n2, n3, u0, u1, u2, u3, 0, 0, 0, 0,
     ]
@@ -86,7 +87,8 @@ fn frame_by(kind: u8, control: u8, address: u8, ci: u8, data: &[u8]) -> Frame<'_
     }
 }
 
-// number * 65536 + bytes written
+// number * 65536 + bytes written, since a C call answers one number. Apart from `jezynar::packed_count`, since the writer's
+// count is a `usize`.
 #[tactic(auto, using(crate::proofs::TelegramLaws::refusal_most))]
 fn packed_written(w: Result<usize, WriteError>) -> u32
     requires { written_count w < 65536 }

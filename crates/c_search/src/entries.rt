@@ -12,7 +12,7 @@ fn entry_bytes(e: EntryRecord) -> [u8; 16]
     ensures { result ≡ entry_bytes_value e }
 {
     let d = e.digits;
-    let n = numbers::le4(u64::from(e.count));
+    let n = e.count.to_le_bytes();
     [
         e.kind as u8,
         d[0],
@@ -33,7 +33,8 @@ fn entry_bytes(e: EntryRecord) -> [u8; 16]
     ]
 }
 
-// The first count entries, 16 bytes each; the bytes past them stay.
+// The first count entries, 16 bytes each, of the array that the search was lent; the bytes past them stay. By index, since an
+// entry's bytes go to 16 times its place.
 pub(crate) fn write_entries(found: &[EntryRecord; METERS], count: usize, lent: &mut [u8])
     requires { (count ≤ most_meters) × (16 * count ≤ length lent.old) }
     ensures { lent.new ≡ each (take count found.now) entry_bytes_value ++ drop (16 * count) lent.old }
@@ -46,9 +47,9 @@ pub(crate) fn write_entries(found: &[EntryRecord; METERS], count: usize, lent: &
 pub(crate) fn summary_of(count: usize, probes: u32, spent: bool) -> [u8; 12]
     ensures { result ≡ summary_of_value count probes spent }
 {
-    let c = numbers::le4(count as u64);
-    let p = numbers::le4(u64::from(probes));
-    let s = numbers::le4(u64::from(spent));
+    let c = count.to_le_bytes();
+    let p = probes.to_le_bytes();
+    let s = u32::from(spent).to_le_bytes();
     [
         c[0], c[1], c[2], c[3], p[0], p[1], p[2], p[3], s[0], s[1], s[2], s[3],
     ]

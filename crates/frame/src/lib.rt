@@ -6,7 +6,8 @@ ghost use Rattle.laws.specs.Words.{at};
 ghost use Rattle.frame.specs.Frame.{data_of, long, sum, parse_short_value, parse_long_value};
 ghost use Rattle.frame.specs.View.{telegram_of, parsed_of};
 
-// The bytes of the protocol. They are those of specs/Protocol.antt.
+// The bytes of the protocol. They are those of specs/Protocol.antt, and no enums: any byte may stand in a telegram, and what
+// it means depends on others.
 
 // The one byte of an ACK.
 pub const ACK: u8 = 0xE5;

@@ -2,7 +2,7 @@
 use Rattle.std.proofs.Common.{◌≡◌, ℕ, suc, ◌+◌, ◌%◌, ◌^◌, ◌<◌, ◌≤◌, List, [], ◌∷◌, ◌++◌, length, take, drop, refl, ap, ◌∙◌, ap₂, arith, drop-drop, le-ltb, lt-ltb}
 use lib.Seq.{take-append_seam, drop-append-add}
 use Rattle.frame.proofs.Cases.{sum_two}
-use Rattle.frame.specs.Frame.{Telegram, ack, short, long, sum, encode, data_of}
+use Rattle.frame.specs.Frame.{Telegram, short, long, sum, encode, data_of}
 use Rattle.frame_write.specs.Writer.{write}
 
 module _ (t : Telegram) (lent : List ℕ) where
@@ -19,23 +19,15 @@ module _ (t : Telegram) (lent : List ℕ) where
   unfolding write
   write-fits n after e h k f = rw (le-ltb 252 (length (data_of t)) h, e, le-ltb (length lent) n k, f)
 
-pub length_ack : length (encode ack) ≡ 1
-unfolding encode
-length_ack = refl
-
-pub length_short : (c a : ℕ) → length (encode (short c a)) ≡ 5
-unfolding encode
-length_short c a = refl
-
 -- the sum, with C, A and CI in front of the data
 pub sum_long : (c a ci : ℕ) (d : List ℕ) → (((c + a) % 2 ^ 8 + ci) % 2 ^ 8 + sum d) % 2 ^ 8 ≡ sum (c ∷ a ∷ ci ∷ d)
 unfolding sum
 sum_long c a ci d = omega arith
 
--- a short telegram, put down whole
-pub short_put : (c a : ℕ) (l : List ℕ) {after : List ℕ} → after ≡ 0x10 ∷ c ∷ a ∷ ((c + a) % 2 ^ 8) ∷ 0x16 ∷ drop 5 l → after ≡ encode (short c a) ++ drop 5 l
+-- a short telegram's bytes
+pub short_bytes : (c a : ℕ) → encode (short c a) ≡ 0x10 ∷ c ∷ a ∷ ((c + a) % 2 ^ 8) ∷ 0x16 ∷ []
 unfolding encode
-short_put c a l e = rw sum_two e
+short_bytes c a = rw sum_two refl
 
 -- the head, the data behind it, and the end behind these
 seven : (n : ℕ) → 7 + n ≡ suc (suc (suc (suc (suc (suc (suc n))))))

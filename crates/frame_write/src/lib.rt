@@ -7,6 +7,7 @@ ghost use Rattle.frame_write.specs.Writer.{write};
 ghost use Rattle.frame_write.specs.View.{refusal_number, written_of};
 
 use frame::Frame;
+use laws::answer::Numbered;
 use laws::refused;
 
 mod writing; // writing.rt: each kind of telegram written into lent bytes
@@ -18,11 +19,10 @@ pub enum WriteError {
     NoRoom,
 }
 
-impl WriteError {
-    // 01's number of the refusal.
-    pub fn number(self) -> u32
-        ensures { result ≡ refusal_number self }
-    {
+impl Numbered for WriteError {
+    ghost number_of = { refusal_number };
+
+    fn number(self) -> u32 {
         match self {
             WriteError::DataTooLong => refused::DATA,
             WriteError::NoRoom => refused::ROOM,

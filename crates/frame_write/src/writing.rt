@@ -1,14 +1,15 @@
 // Each kind of telegram written into lent bytes.
 ghost use Rattle.std.specs.Prelude.{◌≡◌, ◌+◌, ◌≤◌, [], ◌∷◌, ◌++◌, length, take, drop};
 ghost use Rattle.frame.specs.Protocol.{start_long, stop_byte};
-ghost use Rattle.frame.specs.Frame.{ack, short, long, sum};
+ghost use Rattle.frame.specs.Frame.{Telegram, ack, short, long, sum, encode, data_of};
 ghost use Rattle.frame_write.specs.Writer.{write};
 ghost use Rattle.frame_write.specs.View.{written_of};
 
 use crate::WriteError;
 use frame::{ACK, START_LONG, START_SHORT, STOP, checksum};
 
-// Bytes from a place on. Each `put_` function requires that its bytes fit.
+// Some bytes from a place on, for which there is room. It is private because here all fits, where `laws::copy` cuts what does
+// not fit.
 fn put(bytes: &[u8], lent: &mut [u8], from: usize)
     requires { from + length bytes.now ≤ length lent.old }
     ensures { lent.new ≡ take from lent.old ++ bytes.now ++ drop (from + length bytes.now) lent.old }
@@ -28,7 +29,7 @@ fn long_sum(control: u8, address: u8, ci: u8, data: &[u8]) -> u8
 
 fn put_long(control: u8, address: u8, ci: u8, data: &[u8], lent: &mut [u8])
     requires { (length «data».now ≤ 252) × (length «data».now + 9 ≤ length lent.old) }
-    ensures { lent.new ≡ Rattle.frame.specs.Frame.encode (long control address ci «data».now) ++ drop (length «data».now + 9) lent.old }
+    ensures { lent.new ≡ encode (long control address ci «data».now) ++ drop (length «data».now + 9) lent.old }
 {
     let n = data.len();
     let l = (n + 3) as u8;
@@ -41,25 +42,28 @@ fn put_long(control: u8, address: u8, ci: u8, data: &[u8], lent: &mut [u8])
     put(&[long_sum(control, address, ci, data), STOP], lent, n + 7);
 }
 
+// A telegram of N bytes in front of the lent ones, if there is room.
+fn write_front<const N: usize>(bytes: [u8; N], lent: &mut [u8]) -> Result<usize, WriteError>
+    ensures { (t : Telegram) → encode t ≡ bytes.entry → length (data_of t) ≤ 252 → written_of result lent.new ≡ write t lent.old }
+{
+    if lent.len() < N {
+        return Err(WriteError::NoRoom);
+    }
+    put(&bytes, lent, 0);
+    Ok(N)
+}
+
 pub(crate) fn encode_ack(lent: &mut [u8]) -> Result<usize, WriteError>
     ensures { written_of result lent.new ≡ write ack lent.old }
 {
-    if lent.len() < 1 {
-        return Err(WriteError::NoRoom);
-    }
-    lent[0] = ACK;
-    Ok(1)
+    write_front([ACK], lent)
 }
 
 pub(crate) fn encode_short(control: u8, address: u8, lent: &mut [u8]) -> Result<usize, WriteError>
     ensures { written_of result lent.new ≡ write (short control address) lent.old }
 {
-    if lent.len() < 5 {
-        return Err(WriteError::NoRoom);
-    }
     let sum = control.wrapping_add(address);
-    put(&[START_SHORT, control, address, sum, STOP], lent, 0);
-    Ok(5)
+    write_front([START_SHORT, control, address, sum, STOP], lent)
 }
 
 pub(crate) fn encode_long(

@@ -1,29 +1,30 @@
-// The entry points of the static library, which the crate jezynar_c exports. The segment is an image that the caller keeps between the
-// calls.
+// The entry points of the static library, which the crate jezynar_c exports. The segment is an image that the caller
+// keeps between the calls.
 #![tactic(auto)]
 
 ghost use Rattle.std.specs.Prelude.{◌≡◌, ◌+◌, ◌*◌, ◌/◌, ◌%◌, ◌<◌};
 ghost use Rattle.frame.specs.Frame;
 ghost use Rattle.frame_write.specs.Writer.{write};
+ghost use Rattle.laws.specs.Refusal.{number_of_answer, count_of_answer};
 ghost use Rattle.list_check.specs.Refusals.{refusal_number_value, refusal_index_value};
 ghost use Rattle.list_open.specs.Opening.{most_meters};
 ghost use Rattle.time_clock.specs.Fields.{clock_at_value};
 ghost use Rattle.segment.specs.Plain.{blank};
 ghost use Rattle.segment.specs.Calls;
 ghost use Rattle.segment_send.specs.Send;
-ghost use Rattle.segment_send.specs.View.{sending_number_value, sending_due_value, SentImage};
+ghost use Rattle.segment_send.specs.View.{SentImage};
 ghost use Rattle.segment_image.specs.Image.{decode_image, image_len, IsImage};
 ghost use Rattle.segment_image.specs.Answers.{DoneImage, OpenedImage, ReceivedImage, LeftImage};
 ghost use Rattle.segment_export.specs.Export.{export_into_value};
-ghost use Rattle.segment_export.specs.View.{exporting_number_value, exporting_count_value, exported_by};
+ghost use Rattle.segment_export.specs.View.{exported_by};
 ghost use Rattle.c_search.specs.Searches.{search_by, Searches};
 ghost use Rattle.c_frame.specs.Telegrams.{Parses, telegram_by, Writes};
 
+use laws::answer;
+use laws::answer::Numbered;
 use list_check::refusal::Refusal;
 use segment::Segment;
-use segment_export::ExportError;
 use segment_image::IMAGE;
-use segment_send::SendError;
 use time_clock::clock_at;
 
 const LEN: usize = IMAGE;
@@ -62,16 +63,16 @@ pub fn jezynar_segment_set_baud(image: &mut [u8; IMAGE], baud: u32) -> u32
     ensures { DoneImage (Calls.change_baud baud (decode_image image.old)) result image.old image.new }
 {
     let answer = segment_calls::set_baud(image, baud);
-    segment_calls::changing_number(answer)
+    answer::number(answer)
 }
 
-// number + 256 * index
+// number + 256 * index, since a C call answers one number
 fn packed(answer: Result<(), Refusal>) -> u32
     requires { refusal_index_value answer < most_meters }
-    ensures { result ≡ refusal_number_value answer + 256 * refusal_index_value answer }
+    ensures { (result ≡ refusal_number_value answer + 256 * refusal_index_value answer) × (refusal_number_value answer < 256) }
 {
     let index = list_check::refusal::refusal_index(answer);
-    let number = list_check::refusal::refusal_number(answer);
+    let number = answer::number(answer);
     number + 256 * (index as u32)
 }
 
@@ -89,17 +90,15 @@ pub fn jezynar_segment_open(
     packed(answer)
 }
 
-// number * 65536 + due
-fn packed_sent(answer: Result<u16, SendError>) -> u32
-    ensures { (result ≡ sending_number_value answer * 65536 + sending_due_value answer) × (sending_due_value answer < 65536) }
+// number * 65536 + how many bytes, since a C call answers one number
+fn packed_count<E: Numbered>(answer: Result<u16, E>) -> u32
+    ensures { (result ≡ number_of_answer E.number_of answer * 65536 + count_of_answer answer) × (count_of_answer answer < 65536) }
 {
-    let number = segment_send::sending_number(answer);
-    let due = segment_send::sending_due(answer);
-    number * 65536 + u32::from(due)
+    answer::number(answer) * 65536 + u32::from(answer::count(answer))
 }
 
-// Sends a piece at a clock. 13: piece over 1,024; 14: a clock field out of range; 15: queue would pass 4,096.
-// Accepted, it says how many bytes are due of what waits.
+// Sends a piece at a clock, whose six numbers C gives one by one. 13: piece over 1,024; 14: a clock field out of range;
+// 15: queue would pass 4,096. Accepted, it says how many bytes are due of what waits.
 pub fn jezynar_segment_send(
     image: &mut [u8; IMAGE],
     piece: &[u8],
@@ -114,7 +113,7 @@ pub fn jezynar_segment_send(
 {
     let at = clock_at(secs, year, month, day, hour, minute);
     let answer = segment_send::send(image, piece, at);
-    packed_sent(answer)
+    packed_count(answer)
 }
 
 // Hands out the least of 32, the lent length and the queued bytes.
@@ -124,21 +123,12 @@ pub fn jezynar_segment_receive(image: &mut [u8; IMAGE], lent: &mut [u8]) -> usiz
     segment_calls::receive(image, lent)
 }
 
-// number * 65536 + bytes
-fn packed_exported(answer: Result<u16, ExportError>) -> u32
-    ensures { (result ≡ exporting_number_value answer * 65536 + exporting_count_value answer) × (exporting_count_value answer < 65536) }
-{
-    let number = segment_export::exporting_number(answer);
-    let count = segment_export::exporting_count(answer);
-    number * 65536 + u32::from(count)
-}
-
 // Writes the present meters as a list, to be opened at the bus baud. 18: a primary above 250; 12: lent bytes too few.
 pub fn jezynar_segment_export(image: &[u8; IMAGE], lent: &mut [u8]) -> u32
     ensures { exported_by (result / 65536) (result % 65536) lent.new ≡ export_into_value lent.old (decode_image image.now) }
 {
     let answer = segment_export::export(image, lent);
-    packed_exported(answer)
+    packed_count(answer)
 }
 
 // ---- the search

@@ -1,4 +1,5 @@
-// The exports of the static library libjezynar.a: each is the function of its name in the crate jezynar, with the same clauses.
+// The exports of the static library libjezynar.a (a crate of their own, since a `staticlib` is no library that other
+// crates can use): each is the function of its name in the crate jezynar, with the same clauses.
 #![tactic(auto)]
 
 ghost use Rattle.std.specs.Prelude.{◌≡◌, ◌+◌, ◌*◌, ◌/◌, ◌%◌, ◌<◌};
@@ -10,11 +11,11 @@ ghost use Rattle.time_clock.specs.Fields.{clock_at_value};
 ghost use Rattle.segment.specs.Plain.{blank};
 ghost use Rattle.segment.specs.Calls;
 ghost use Rattle.segment_send.specs.Send;
-ghost use Rattle.segment_send.specs.View.{sending_number_value, sending_due_value, SentImage};
+ghost use Rattle.segment_send.specs.View.{SentImage};
 ghost use Rattle.segment_image.specs.Image.{decode_image, image_len, IsImage};
 ghost use Rattle.segment_image.specs.Answers.{DoneImage, OpenedImage, ReceivedImage, LeftImage};
 ghost use Rattle.segment_export.specs.Export.{export_into_value};
-ghost use Rattle.segment_export.specs.View.{exporting_number_value, exporting_count_value, exported_by};
+ghost use Rattle.segment_export.specs.View.{exported_by};
 ghost use Rattle.c_search.specs.Searches.{search_by, Searches};
 ghost use Rattle.c_frame.specs.Telegrams.{Parses, telegram_by, Writes};
 

@@ -3,11 +3,11 @@ use Rattle.std.specs.Prelude.{if◌then◌else◌}
 use mathlib.Core.Path.{◌≡◌, refl, sym, ap, ap₂, ◌∙◌}
 use mathlib.Core.Bool.{Bool, true, false, cond, ◌&&◌}
 use mathlib.Core.List.{List, [], ◌∷◌, ◌++◌, map}
-use Prim.Native.Nat.{ℕ, zero, suc, ◌-◌, ◌≤◌, zero-le}
+use Prim.Native.Nat.{ℕ, zero, suc, ◌≤◌, zero-le}
 use native.Mathlib.Omega.{arith}
-use lib.ListN.{length, take, drop, get_or, length-drop}
-use lib.Seq.{take_all}
-use Rattle.laws.specs.Words.{keep, Every}
+use lib.ListN.{length, take, get_or}
+use Rattle.std.specs.Int.{from_bool}
+use Rattle.laws.specs.Words.{bit_if, keep, Every}
 
 -- whichever way a test goes
 pub if_all : {A : Type 0} (P : A → Type 0) (b : Bool) (x y : A) → P x → P y → P (if b then x else y)
@@ -112,11 +112,12 @@ module _ {A B : Type 0} where
   map_same f g [] h = refl
   map_same f g (x ∷ xs) h = ap₂ (λ y ys. y ∷ ys) h.0 (map_same f g xs h.1)
 
-pub map-map : {A B C : Type 0} (g : B → C) (f : A → B) (xs : List A) → map g (map f xs) ≡ map (λ x. g (f x)) xs
-map-map g f [] = refl
-map-map g f (x ∷ xs) = ap (λ r. g (f x) ∷ r) (map-map g f xs)
-
 -- ---- tests
+
+-- std's number of a test
+pub bit_from : (b : Bool) → from_bool b ≡ bit_if b
+bit_from true = refl
+bit_from false = refl
 
 pub and_l : (a b : Bool) → a && b ≡ true → a ≡ true
 and_l true b e = refl
@@ -125,19 +126,6 @@ and_l false b e = e
 pub and_r : (a b : Bool) → a && b ≡ true → b ≡ true
 and_r true b e = e
 and_r false b e = let z : ◌≡◌ {A = ℕ} 0 1 = cc in absurd (omega arith)
-
-pub and_both : (a b : Bool) → a ≡ true → b ≡ true → a && b ≡ true
-and_both a b p q = rw (p, q)
-
-module _ {A B : Type 0} (f : A → B) where
-  pub map-take : (n : ℕ) (xs : List A) → map f (take n xs) ≡ take n (map f xs)
-  map-take zero xs = refl
-  map-take (suc n) [] = refl
-  map-take (suc n) (x ∷ xs) = ap (λ (r : List B). f x ∷ r) (map-take n xs)
-
--- the last of a list, as a part of it
-pub take_rest : (xs : List ℕ) (n : ℕ) → take (length xs - n) (drop n xs) ≡ drop n xs
-take_rest xs n = take_all (length xs - n) (drop n xs) (omega (arith, length-drop n xs))
 
 -- ---- bytes
 

@@ -5,10 +5,11 @@ use mathlib.Core.Path.{◌≡◌, refl, sym, ap, ◌∙◌}
 use mathlib.Core.List.{List, [], ◌∷◌, map}
 use Prim.Native.Nat.{ℕ, zero, suc, ◌+◌, ◌≤◌, ◌<◌}
 use native.Mathlib.Nat.{le_of_suc-le-suc, not-suc-le-zero}
-use native.Mathlib.Numerals.{add-one}
 use lib.ListN.{length, take, set, get_or, length-map}
 use lib.Seq.{take_all}
-use Rattle.laws.specs.Sweep.{swept, fold}
+use Rattle.std.specs.List.{fold}
+use Rattle.std.proofs.lemmas.List.Sums.{fold_more}
+use Rattle.laws.specs.Sweep.{swept}
 
 module _ {A : Type 0} (f : A → A) where
   pub get_d_swept : (xs : List A) (i : ℕ) (d : A) → i < length xs → get_or (swept f i xs) i d ≡ get_or xs i d
@@ -21,12 +22,6 @@ module _ {A : Type 0} (f : A → A) where
   set_swept (x ∷ xs) zero d h = refl
   set_swept (x ∷ xs) (suc i) d h = ap (λ (r : List A). f x ∷ r) (set_swept xs i d (le_of_suc-le-suc h))
 
-module _ {A S : Type 0} (g : S → A → S) where
-  fold_suc : (s : S) (xs : List A) (i : ℕ) (d : A) → i < length xs → fold g s (take (suc i) xs) ≡ g (fold g s (take i xs)) (get_or xs i d)
-  fold_suc s [] i d h = absurd (not-suc-le-zero h)
-  fold_suc s (x ∷ xs) zero d h = refl
-  fold_suc s (x ∷ xs) (suc i) d h = fold_suc (g s x) xs i d (le_of_suc-le-suc h)
-
 -- a loop over a slice that carries a state: its invariant, a turn, the end
 pub record Folded {A S : Type 0} (g : S → A → S) (s₀ : S) (xs : List A) (i : ℕ) (s : S) : Type 0 where
   pub is : s ≡ fold g s₀ (take i xs)
@@ -36,7 +31,7 @@ module _ {A S : Type 0} {g : S → A → S} {s₀ : S} {xs : List A} where
   folded_none = record { is = refl }
 
   pub folded_more : {i : ℕ} {s t : S} (d : A) → Folded g s₀ xs i s → i < length xs → t ≡ g s (get_or xs i d) → Folded g s₀ xs (i + 1) t
-  folded_more {i} d r h e = record { is = rw (e, r.is, add-one) (sym (fold_suc g s₀ xs i d h)) }
+  folded_more {i} d r h e = record { is = rw (e, r.is) (sym (fold_more g s₀ xs i d h)) }
 
   pub folded_whole : {i : ℕ} {s : S} → Folded g s₀ xs i s → length xs ≤ i → s ≡ fold g s₀ xs
   folded_whole {i} r h = r.is ∙ ap (fold g s₀) (take_all i xs h)

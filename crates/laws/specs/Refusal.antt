@@ -1,6 +1,6 @@
 -- 01, "Places of refusal": a name for each number, in the table's order, under the words of its condition; then 02's
 -- ("18 and later numbers join 01's table").
-use Rattle.std.specs.Prelude.{ℕ}
+use Rattle.std.specs.Prelude.{ℕ, Result, Ok, Err}
 
 -- a call that is not refused: the number of no place
 abbrev pub not_refused : ℕ
@@ -89,3 +89,15 @@ refused_entries = 17
 -- "a primary above 250"
 abbrev pub refused_high_primary : ℕ
 refused_high_primary = 18
+
+-- ---- what a call answers
+
+-- its number: that of its error, where it is refused
+abbrev pub number_of_answer : {A E : Type 0} → (E → ℕ) → Result A E → ℕ
+number_of_answer error_number (Ok a) = not_refused
+number_of_answer error_number (Err e) = error_number e
+
+-- how many bytes: none, where it is refused
+abbrev pub count_of_answer : {E : Type 0} → Result ℕ E → ℕ
+count_of_answer (Ok n) = n
+count_of_answer (Err e) = 0

@@ -1,9 +1,9 @@
-// A copy of bytes, a test as a number, and the numbers of the refusals.
+// A copy of bytes, the numbers of the refusals, and what a call answers as numbers.
 #![tactic(auto)]
 
 ghost use Rattle.std.specs.Prelude.{◌≡◌, min, ◌≤◌, ◌++◌, length, take, drop};
-ghost use Rattle.laws.specs.Words.{bit_if};
 
+pub mod answer; // answer.rt: what a call answers, as numbers
 pub mod refused; // refused.rt: the numbers of 01's places of refusal
 
 // As many bytes of `from` as fit go to the front of `to`; how many. `copy_from_slice` asks for equal lengths.
@@ -14,11 +14,4 @@ pub fn copy(from: &[u8], to: &mut [u8]) -> usize
     let n = from.len().min(to.len());
     to[..n].copy_from_slice(&from[..n]);
     n
-}
-
-// 1 for yes, 0 for no.
-pub fn bit(yes: bool) -> u32
-    ensures { (result ≡ bit_if yes) × (result ≤ 1) }
-{
-    u32::from(yes)
 }

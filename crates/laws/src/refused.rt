@@ -1,5 +1,6 @@
 // The numbers of 01's "Places of refusal", in the table's order, each under its condition, and those that 02 adds. They
-// are those of specs/Refusal.antt. They are numbers, and no enum, since the C interface answers them.
+// are those of specs/Refusal.antt. They are numbers, as the C interface answers them: the errors of each call are enums, and
+// an enum of the numbers too would be cast at each use.
 
 // A call that is not refused: the number of no place.
 pub const NOT_REFUSED: u32 = 0;

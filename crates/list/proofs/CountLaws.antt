@@ -6,8 +6,8 @@ use Prim.Native.Nat.{ℕ, ◌+◌, ◌-◌, ◌*◌, ◌≤◌, ◌<◌}
 use native.Mathlib.Nat.{add-zero}
 use native.Mathlib.Omega.{arith}
 use lib.ListN.{length, take, drop, length-drop}
-use lib.Seq.{take-length}
 use borrow.Author.Tests.{lt-ltb, le-ltb, eq-eqb, ne_eqb}
+use Rattle.std.proofs.lemmas.List.{take_rest}
 use Rattle.laws.specs.Words.{at}
 use Rattle.list.specs.Layout.{Listed, Layout, fits, no_fit, read_records}
 use Rattle.list.specs.declared.LayoutError.{LayoutError}
@@ -55,10 +55,6 @@ module _ {all rest : List ℕ} {k : ℕ} (c : Counted all rest k) where
 
 -- ---- the whole list
 
--- the bytes behind the first three, as the program's pattern has them
-behind_three : (bs : List ℕ) → take (length bs - 3) (drop 3 bs) ≡ drop 3 bs
-behind_three bs = ap (λ (n : ℕ). take n (drop 3 bs)) (sym (length-drop 3 bs)) ∙ take-length (drop 3 bs)
-
 pub layout_short : (bs : List ℕ) → length bs < 3 → Err Unversioned ≡ layout_value bs
 unfolding layout_value
 layout_short bs h = rw (lt-ltb (length bs) 3 h)
@@ -69,15 +65,15 @@ layout_version bs h v = rw (le-ltb (length bs) 3 h, ne_eqb (at bs 0) 1 v)
 
 module _ (bs : List ℕ) (h : 3 ≤ length bs) (v : at bs 0 ≡ 1) {n : ℕ} (e : n ≡ at bs 1 * 256 + at bs 2) where
   counted : n ≡ length (take (length bs - 3) (drop 3 bs)) → at bs 1 * 256 + at bs 2 ≡ length bs - 3
-  counted l = sym e ∙ l ∙ ap length (behind_three bs) ∙ length-drop 3 bs
+  counted l = sym e ∙ l ∙ ap length (take_rest bs 3) ∙ length-drop 3 bs
 
   pub layout_length : (n ≡ length (take (length bs - 3) (drop 3 bs)) → ⊥) → Err Unfit ≡ layout_value bs
   unfolding layout_value
-  layout_length l = rw (le-ltb (length bs) 3 h, eq-eqb (at bs 0) 1 v, ne_eqb (at bs 1 * 256 + at bs 2) (length bs - 3) (λ q. l (e ∙ q ∙ sym (ap length (behind_three bs) ∙ length-drop 3 bs))))
+  layout_length l = rw (le-ltb (length bs) 3 h, eq-eqb (at bs 0) 1 v, ne_eqb (at bs 1 * 256 + at bs 2) (length bs - 3) (λ q. l (e ∙ q ∙ sym (ap length (take_rest bs 3) ∙ length-drop 3 bs))))
 
   pub layout_records : n ≡ length (take (length bs - 3) (drop 3 bs))
       → {r : Result ℕ LayoutError} → r ≡ count_of (read_records (length (take (length bs - 3) (drop 3 bs))) (take (length bs - 3) (drop 3 bs))) → r ≡ layout_value bs
   unfolding layout_value
   layout_records l q =
       rw (le-ltb (length bs) 3 h, eq-eqb (at bs 0) 1 v, eq-eqb (at bs 1 * 256 + at bs 2) (length bs - 3) (counted l), ← enough (length bs) (drop 3 bs) (rw length-drop (omega arith)))
-      (q ∙ ap (λ (x : List ℕ). count_of (read_records (length x) x)) (behind_three bs))
+      (q ∙ ap (λ (x : List ℕ). count_of (read_records (length x) x)) (take_rest bs 3))

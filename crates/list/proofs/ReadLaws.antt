@@ -7,7 +7,7 @@ use Prim.Native.Nat.{ℕ, zero, suc, ◌+◌, ◌-◌, ◌*◌, ◌≤◌, ◌<�
 use native.Mathlib.Omega.{arith}
 use lib.Dec.{leb}
 use lib.ListN.{length, take, drop, length-drop}
-use lib.Seq.{length-take-le, take-length}
+use lib.Seq.{length-take-le}
 use borrow.Author.Tests.{leb-true, le-leb, lt-leb}
 use Rattle.laws.specs.Words.{at}
 use Rattle.list.specs.Layout.{Listed, Texts, texts, no_texts, first_text, read_texts, Layout, fits, no_fit, made, read_records}
@@ -63,10 +63,6 @@ NoRecord bs = ◌≡◌ {A = Option Listed} None (record_value bs)
 pub record_short : (bs : List ℕ) → length bs < 6 → NoRecord bs
 unfolding record_value
 record_short bs h = rw (lt-leb 6 (length bs) h)
-
--- the bytes behind the first six, as the program's pattern has them
-pub behind_six : (bs : List ℕ) → take (length bs - 6) (drop 6 bs) ≡ drop 6 bs
-behind_six bs = ap (λ (n : ℕ). take n (drop 6 bs)) (sym (length-drop 6 bs)) ∙ take-length (drop 6 bs)
 
 module _ (bs : List ℕ) (h : 6 ≤ length bs) {o : List ℕ} (p : o ≡ drop 6 bs) where
   pub no_id : ◌≡◌ {A = Option (List ℕ × List ℕ)} None (split_text_value o) → NoRecord bs

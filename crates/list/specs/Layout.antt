@@ -36,12 +36,10 @@ pub data Layout : Type 0 where
   fits : List Listed → Layout
   no_fit : Layout
 
--- the rest of a record after its length byte: its bytes, its texts (from byte 6 on), and the records that follow it
-abbrev pub made : List ℕ → Texts → Layout → Layout
-made bs no_texts more = no_fit
-made bs (texts ts) no_fit = no_fit
-made bs (texts ts) (fits rs) =
-    fits (record {
+-- the record of its bytes after its length byte, and of its texts (from byte 6 on)
+abbrev pub record_with : List ℕ → List (List ℕ) → Listed
+record_with bs ts =
+    record {
       primary = at bs 0;
       version = at bs 1;
       baud = ((at bs 2 * 256 + at bs 3) * 256 + at bs 4) * 256 + at bs 5;
@@ -49,7 +47,13 @@ made bs (texts ts) (fits rs) =
       manufacturer = get_or ts 1 [];
       medium = get_or ts 2 [];
       fault = get_or ts 3 [];
-    } ∷ rs)
+    }
+
+-- a record's bytes, its texts, and the records that follow it
+abbrev pub made : List ℕ → Texts → Layout → Layout
+made bs no_texts more = no_fit
+made bs (texts ts) no_fit = no_fit
+made bs (texts ts) (fits rs) = fits (record_with bs ts ∷ rs)
 
 -- one record after another. Each has one byte, the length of its rest, which holds at least the six bytes before the
 -- texts.

@@ -1,9 +1,9 @@
 -- The layout as the program reads it: what stands first in some bytes of records, and the bytes behind it. That these
 -- steps, one after another, give 01's records is proved (proofs/Steps, `steps_are_records`).
-use Rattle.std.specs.Prelude.{◌≡◌, ◌||◌, not, List, [], ◌∷◌, ℕ, ◌+◌, ◌-◌, ◌*◌, eqb, leb, ltb, length, take, drop, get_or, if◌then◌else◌, Option, Some, None, Result, Ok, Err}
+use Rattle.std.specs.Prelude.{◌≡◌, ◌||◌, not, List, [], ◌∷◌, ℕ, ◌+◌, ◌-◌, ◌*◌, eqb, leb, ltb, length, take, drop, if◌then◌else◌, Option, Some, None, Result, Ok, Err}
 use Rattle.std.specs.Borrow.{Bor}
 use Rattle.laws.specs.Words.{at}
-use Rattle.list.specs.Layout.{Listed, Texts, texts, no_texts, read_texts, Layout, fits, no_fit, read_records}
+use Rattle.list.specs.Layout.{Listed, Texts, texts, no_texts, read_texts, record_with, Layout, fits, no_fit, read_records}
 use Rattle.list.specs.declared.Listed.{Listed as Lent}
 use Rattle.list.specs.declared.LayoutError.{LayoutError}
 use Rattle.list.specs.declared.LayoutError.TheVariants.{Unversioned, Unfit}
@@ -40,16 +40,7 @@ split_texts (Some p) = Some (p.0.now, p.1.now)
 -- four texts, one after another, which fill the record exactly
 abbrev pub with_texts : List ℕ → Texts → Option Listed
 with_texts bs no_texts = None
-with_texts bs (texts ts) =
-    Some (record {
-      primary = at bs 0;
-      version = at bs 1;
-      baud = ((at bs 2 * 256 + at bs 3) * 256 + at bs 4) * 256 + at bs 5;
-      id = get_or ts 0 [];
-      manufacturer = get_or ts 1 [];
-      medium = get_or ts 2 [];
-      fault = get_or ts 3 [];
-    })
+with_texts bs (texts ts) = Some (record_with bs ts)
 
 -- a record's bytes after its length byte: at least the six bytes before the texts
 unfoldable pub record_value : List ℕ → Option Listed

@@ -46,7 +46,7 @@ pub(crate) fn split_record(bytes: &[u8]) -> Option<(Listed<'_>, &[u8])>
     Some((record_in(record)?, rest))
 }
 
-// The number of records.
+// The number of records. By `while let`, since the reader is no `Iterator`.
 fn count(records: &[u8]) -> Result<usize, LayoutError>
     ensures { result ≡ count_of (read_records (length records.now) records.now) }
 {

@@ -44,7 +44,8 @@ impl<'a> Reader<'a> {
         }
     }
 
-    // The next meter of the list. At bytes that are no record the reader stays.
+    // The next meter of the list. At bytes that are no record the reader stays where it is. So it is no `Iterator`,
+    // which would have to end there.
     pub fn next(&mut self) -> Result<Option<Listed<'a>>, LayoutError>
         ensures { Reads self.old.rest.now result self.new.rest.now }
     {

@@ -84,6 +84,7 @@ const BAUDS: [u8; 261] = *b"\x01\x01\x02\
     \x1E\x07\x01\x00\x00\x01\x2C\x0884000007\x03SEN\x05water\x04none\
     \x1E\x08\x01\x00\x00\x01\x2C\x0884000008\x03SEN\x05water\x04none";
 
+// A function for each list: a constant has no contract, and a caller names the list that it wants.
 pub fn praxis() -> [u8; 664]
     ensures { result ≡ Builtins.praxis }
 {

@@ -1,6 +1,6 @@
 -- The rules of a record, one by one: id, manufacturer, own baud; and the id's digits as a number.
-use mathlib.Core.Path.{◌≡◌, refl, ap, ◌∙◌}
-use mathlib.Core.Bool.{Bool, true, false, ◌&&◌, ◌||◌}
+use mathlib.Core.Path.{◌≡◌, refl, ap, ◌∙◌, sym}
+use mathlib.Core.Bool.{Bool, true, false, ◌&&◌, or-false}
 use mathlib.Core.List.{List, [], ◌∷◌}
 use Prim.Native.Nat.{ℕ, zero, suc, ◌+◌, ◌-◌, ◌*◌, ◌^◌, ◌≤◌, ◌<◌, zero-le}
 use native.Mathlib.Nat.{le_of_suc-le-suc, not-suc-le-zero, pow-suc, pow-le-pow_right, mul-le-mul_left}
@@ -11,7 +11,7 @@ use lib.ListN.{length}
 use Rattle.std.specs.List.{list_all}
 use borrow.Author.Tests.{eq-eqb, ne_eqb, eqb-true, leb-true}
 use Rattle.laws.specs.Words.{at, same_list}
-use Rattle.laws.specs.Sweep.{fold}
+use Rattle.std.specs.List.{fold}
 use Rattle.laws.proofs.Lists.{and_l, and_r}
 use Rattle.laws.proofs.Sweep.{Folded, folded_none, folded_more, folded_whole}
 use Rattle.meter_identity.specs.Identity.{in_base}
@@ -51,10 +51,6 @@ id_digit t i h k = within-at 0x30 0x39 t i (and_r (eqb (length t) 8) (all_within
 
 -- ---- manufacturer
 
-or_false : (b : Bool) → b ≡ b || false
-or_false true = refl
-or_false false = refl
-
 pub manufacturer_none : (t m : List ℕ) {r : Bool} → length t ≡ 0 → r ≡ same_list medium_heat_old.key m → r ≡ good_manufacturer_value t m
 unfolding good_manufacturer_value
 manufacturer_none t m h q = rw (ne_eqb (length t) 3 (λ e. omega arith), eq-eqb (length t) 0 h) q
@@ -65,7 +61,7 @@ manufacturer_other t m h k = rw (ne_eqb (length t) 3 k, ne_eqb (length t) 0 h)
 
 pub manufacturer_three : (t m : List ℕ) {r : Bool} → length t ≡ 3 → r ≡ all_within_value 0x41 0x5A t → r ≡ good_manufacturer_value t m
 unfolding good_manufacturer_value
-manufacturer_three t m {r} h q = rw (eq-eqb (length t) 3 h, ne_eqb (length t) 0 (λ e. omega arith)) (q ∙ or_false (all_within_value 0x41 0x5A t))
+manufacturer_three t m {r} h q = rw (eq-eqb (length t) 3 h, ne_eqb (length t) 0 (λ e. omega arith)) (q ∙ sym (or-false (all_within_value 0x41 0x5A t)))
 
 -- ---- the digits as a number
 

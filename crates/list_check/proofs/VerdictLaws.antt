@@ -13,7 +13,8 @@ use Rattle.list_check.specs.Tables.{Medium, FaultKey, media, faults, is_medium_v
 use Rattle.list_check.specs.ProgramKeys.{medium_row, fault_row}
 use Rattle.list.specs.Layout.{Listed}
 use Rattle.list_check.specs.Check.{text_digits, good_id_value, good_manufacturer_value, check}
-use Rattle.list_check.specs.Checked.{own_of, own_baud_checked, values_of, fail_number_value, failing_of, checked_of, CheckGives}
+use Rattle.list_check.specs.Checked.{own_of, values_of, fail_number_value, failing_of, checked_of, CheckGives}
+use Rattle.list_check.specs.ProgramChecked.{own_baud_checked}
 use Rattle.list_check.specs.declared.Values.{Values}
 use Rattle.list_check.specs.declared.Failing.{Failing}
 use Rattle.list_check.specs.declared.Failing.TheVariants.{BadPrimary, BadId, BadManufacturer, BadMedium, BadBaud, BadFault}
@@ -88,12 +89,12 @@ module _ (l : Listed) (h : l.primary ≤ 250) where
             passes = rw (le-ltb 250 l.primary h, a, b, (medium_there media l.medium c).0, (baud_good l.baud e).0, (fault_there faults l.fault g).0)
 
             values_are : {x y z : ℕ} → x ≡ in_base 16 (text_digits l.id) → y ≡ in_base 10 (text_digits l.id) → z ≡ manufacturer_code_value l.manufacturer
-                → ◌≡◌ {A = Values} (record { primary = l.primary; version = l.version; baud = o; id = x; number = y; manufacturer = z; medium = m.code; model = m.model; fault = k.fault }) (values_of l)
+                → ◌≡◌ {A = Values} (record { primary = l.primary; version = l.version; baud = o; id = x; number = y; manufacturer = z; medium = record { code = m.code; model = m.model }; fault = k.fault }) (values_of l)
             unfolding values_of
             values_are p q r = rw (p, q, r, (baud_good l.baud e).1, (medium_there media l.medium c).1, (fault_there faults l.fault g).1)
 
             pub gives_values : {x y z : ℕ} → x ≡ in_base 16 (text_digits l.id) → y ≡ in_base 10 (text_digits l.id) → z ≡ manufacturer_code_value l.manufacturer
-                → CheckGives l (Ok (record { primary = l.primary; version = l.version; baud = o; id = x; number = y; manufacturer = z; medium = m.code; model = m.model; fault = k.fault }))
+                → CheckGives l (Ok (record { primary = l.primary; version = l.version; baud = o; id = x; number = y; manufacturer = z; medium = record { code = m.code; model = m.model }; fault = k.fault }))
             gives_values p q r = record { number = sym passes; is = ap (λ (v : Values). Ok v) (values_are p q r) ∙ checked_passes l passes }
 
 -- what a failing record is refused with has its number

@@ -1,9 +1,8 @@
 -- What the program's `check` gives: the values of a record that passes, or what it fails with.
 use Rattle.std.specs.Prelude.{◌≡◌, ℕ, eqb, if◌then◌else◌, Option, Some, None, Result, Ok, Err}
-use Rattle.meter.specs.Meter.{rates}
 use Rattle.laws.specs.Refusal.{not_refused, refused_primary, refused_id, refused_manufacturer, refused_medium, refused_own_baud, refused_fault}
 use Rattle.meter_identity.specs.Identity.{manufacturer_code_value, in_base, decimal}
-use Rattle.list_check.specs.Tables.{media, faults, medium_of, fault_of, is_rate_value}
+use Rattle.list_check.specs.Tables.{media, faults, medium_of, fault_of}
 use Rattle.list.specs.Layout.{Listed}
 use Rattle.list_check.specs.Check.{text_digits, check}
 use Rattle.list_check.specs.declared.Values.{Values}
@@ -13,10 +12,6 @@ use Rattle.list_check.specs.declared.Failing.TheVariants.{BadPrimary, BadId, Bad
 -- own baud in a record: "0 = the bus's at opening"
 abbrev pub own_of : ℕ → Option ℕ
 own_of baud = if eqb baud 0 then None else Some baud
-
--- "own baud": none of the rates is refused
-unfoldable pub own_baud_checked : ℕ → Result (Option ℕ) Failing
-own_baud_checked baud = if eqb baud 0 then Ok None else if is_rate_value rates baud then Ok (Some baud) else Err BadBaud
 
 -- the values that a record's texts stand for; the id once as BCD nibbles, once as a decimal number
 unfoldable pub values_of : Listed → Values
@@ -28,8 +23,7 @@ values_of r =
       id = in_base 16 (text_digits r.id);
       number = decimal (text_digits r.id);
       manufacturer = manufacturer_code_value r.manufacturer;
-      medium = (medium_of media r.medium).code;
-      model = (medium_of media r.medium).model;
+      medium = record { code = (medium_of media r.medium).code; model = (medium_of media r.medium).model };
       fault = fault_of faults r.fault;
     }
 

@@ -1,6 +1,6 @@
 -- What an opening answers, in the numbers of 01's table.
 use Rattle.std.specs.Prelude.{Bool, true, false, ℕ, Result, Ok, Err}
-use Rattle.laws.specs.Refusal.{not_refused, refused_version, refused_length, refused_capacity, refused_baud}
+use Rattle.laws.specs.Refusal.{number_of_answer, refused_version, refused_length, refused_capacity, refused_baud}
 use Rattle.list.specs.declared.LayoutError.{LayoutError}
 use Rattle.list.specs.declared.LayoutError.TheVariants.{Unversioned, Unfit}
 use Rattle.list_check.specs.Checked.{fail_number_value}
@@ -30,8 +30,7 @@ refusal_of_layout Unfit = Length
 
 -- of an answer; 0: accepted
 abbrev pub refusal_number_value : {T : Type 0} → Result T Refusal → ℕ
-refusal_number_value (Ok x) = not_refused
-refusal_number_value (Err e) = error_number e
+refusal_number_value answer = number_of_answer error_number answer
 
 abbrev pub refusal_index_value : {T : Type 0} → Result T Refusal → ℕ
 refusal_index_value (Ok x) = 0

@@ -5,7 +5,8 @@ ghost use Rattle.laws.specs.Words.{within};
 ghost use Rattle.list_check.specs.Check.{good_id_value, good_manufacturer_value, text_digits};
 ghost use Rattle.list.specs.ProgramReading.{listed_of};
 ghost use Rattle.meter_identity.specs.Identity.{in_base};
-ghost use Rattle.list_check.specs.Checked.{own_baud_checked, CheckGives};
+ghost use Rattle.list_check.specs.Checked.{CheckGives};
+ghost use Rattle.list_check.specs.ProgramChecked.{own_baud_checked};
 
 use super::tables::{find_fault, find_medium, is_rate};
 use super::{Failing, Values};
@@ -43,6 +44,7 @@ fn good_manufacturer(text: &[u8], medium: &[u8]) -> bool
 }
 
 // 0 is the bus's at opening; else one of the rates.
+#[tactic(auto, unfolding(crate::specs::ProgramChecked::own_baud_checked))]
 fn own_baud(baud: u32) -> Result<Option<u32>, Failing>
     ensures { result ≡ own_baud_checked baud }
 {
@@ -55,7 +57,8 @@ fn own_baud(baud: u32) -> Result<Option<u32>, Failing>
     }
 }
 
-// Eight digits as a number in a base: as nibbles with 16, as a decimal number with 10.
+// Eight digits as a number in a base: as nibbles with 16, as a decimal number with 10. Not by `u32::from_str_radix`, which
+// takes a `&str` and answers a `Result`: these are bytes, and checked.
 fn digits_in(base: u32, text: &[u8]) -> u32
     requires { (base ≤ 16) × (good_id_value text.now ≡ true) }
     ensures { result ≡ in_base base (text_digits text.now) }
@@ -90,8 +93,7 @@ pub fn check(listed: Listed) -> Result<Values, Failing>
         id: digits_in(16, listed.id),
         number: digits_in(10, listed.id),
         manufacturer: manufacturer_code(listed.manufacturer),
-        medium: medium.value.code,
-        model: medium.value.model,
+        medium: medium.value,
         fault: fault.value,
     })
 }

@@ -8,8 +8,10 @@ pub mod tables; // tables.rt: keys and codes of media and faults, and the rates
 ghost use Rattle.std.specs.Prelude.{◌≡◌};
 ghost use Rattle.list_check.specs.Checked.{fail_number_value};
 
+use laws::answer::Numbered;
 use laws::refused;
-use meter::{Fault, Model};
+use meter::Fault;
+use tables::Medium;
 
 // The rule that a record fails.
 #[derive(Clone, Copy, PartialEq, Eq, Debug)]
@@ -22,11 +24,10 @@ pub enum Failing {
     BadFault,
 }
 
-impl Failing {
-    // Its number in the table of refusals, 4 to 9.
-    pub fn number(self) -> u32
-        ensures { result ≡ fail_number_value self }
-    {
+impl Numbered for Failing {
+    ghost number_of = { fail_number_value };
+
+    fn number(self) -> u32 {
         match self {
             Failing::BadPrimary => refused::PRIMARY,
             Failing::BadId => refused::ID,
@@ -48,7 +49,6 @@ pub struct Values {
     pub id: u32,
     pub number: u32,
     pub manufacturer: u16,
-    pub medium: u8,
-    pub model: Model,
+    pub medium: Medium,
     pub fault: Fault,
 }

@@ -3,10 +3,11 @@ ghost use Rattle.std.specs.Prelude.{◌≡◌};
 ghost use Rattle.list_check.specs.Refusals.{error_number, error_index, refusal_of_layout, refusal_number_value, refusal_index_value};
 
 use crate::Failing;
+use laws::answer::Numbered;
 use laws::refused;
 use list::LayoutError;
 
-// 1, 2, 3, 4 to 9 with the record's index, 10.
+// Why an opening is refused: by 1, 2, 3 or 10, or by 4 to 9 and a record's index.
 #[derive(Clone, Copy, PartialEq, Eq, Debug)]
 pub enum Refusal {
     Version,
@@ -16,11 +17,10 @@ pub enum Refusal {
     Baud,
 }
 
-impl Refusal {
-    // Its number in the table of refusals.
-    pub fn number(self) -> u32
-        ensures { result ≡ error_number self }
-    {
+impl Numbered for Refusal {
+    ghost number_of = { error_number };
+
+    fn number(self) -> u32 {
         match self {
             Refusal::Version => refused::VERSION,
             Refusal::Length => refused::LENGTH,
@@ -29,8 +29,10 @@ impl Refusal {
             Refusal::Baud => refused::BAUD,
         }
     }
+}
 
-    // The index of the record that is named; elsewhere 0.
+impl Refusal {
+    // The index of the record that is named; elsewhere 0, as the C interface has it.
     pub fn index(self) -> usize
         ensures { result ≡ error_index self }
     {
@@ -52,17 +54,7 @@ impl From<LayoutError> for Refusal {
     }
 }
 
-// The number of an opening's answer in the table of refusals; 0 for an accepted one.
-pub fn refusal_number(answer: Result<(), Refusal>) -> u32
-    ensures { result ≡ refusal_number_value answer }
-{
-    match answer {
-        Ok(()) => refused::NOT_REFUSED,
-        Err(refusal) => refusal.number(),
-    }
-}
-
-// The index of an opening's answer; 0 for an accepted one.
+// The index of an opening's answer; 0 for an accepted one, as the C interface has it.
 pub fn refusal_index(answer: Result<(), Refusal>) -> usize
     ensures { result ≡ refusal_index_value answer }
 {

@@ -133,6 +133,7 @@ pub(crate) fn find_fault(key: &[u8]) -> Option<&'static Keyed<Fault>>
 }
 
 // One of the eight rates.
+#[tactic(auto, unfolding(meter::specs::Meter::rates))]
 pub fn is_rate(baud: u32) -> bool
     ensures { result ≡ is_rate_value rates baud }
 {

@@ -19,8 +19,8 @@ fresh_of bus practice v =
             id = v.id;
             manufacturer = v.manufacturer;
             version = v.version;
-            medium = v.medium;
-            model = v.model;
+            medium = v.medium.code;
+            model = v.medium.model;
             fault = v.fault;
             seed = seed_from practice v.number;
           };

@@ -9,6 +9,7 @@ use list_check::Values;
 use meter::{Built, Meter, State};
 
 // An own baud equal to the bus baud becomes 2400 with the practice flag.
+#[tactic(auto, unfolding(crate::specs::Fresh::other_than_bus_value))]
 fn other_than_bus(own: u32, bus: u32, practice: bool) -> u32
     ensures { result ≡ other_than_bus_value bus practice own }
 {
@@ -33,6 +34,7 @@ fn seed_of(number: u32, practice: bool) -> u32
 
 // A fresh meter. A flaky one misses its first telegram. The bus baud and the flag stay two parameters, as the C interface
 // and the definition have them.
+#[tactic(auto, unfolding(crate::specs::ProgramFresh::fresh_of))]
 pub fn fresh(v: Values, bus: u32, practice: bool) -> Meter
     ensures { result ≡ fresh_of bus practice v }
 {
@@ -40,20 +42,15 @@ pub fn fresh(v: Values, bus: u32, practice: bool) -> Meter
         id: v.id,
         manufacturer: v.manufacturer,
         version: v.version,
-        medium: v.medium,
-        model: v.model,
+        medium: v.medium.code,
+        model: v.medium.model,
         fault: v.fault,
         seed: seed_of(v.number, practice),
     };
     let state = State {
         primary: v.primary,
-        access: 0,
-        selected: false,
-        part: 0,
-        last: None,
-        readouts: 0,
-        hearing: false,
         baud: baud_of(v.baud, bus, practice),
+        ..State::default()
     };
     Meter { built, state }
 }

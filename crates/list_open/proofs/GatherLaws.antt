@@ -5,9 +5,10 @@ use mathlib.Core.Bool.{Bool}
 use mathlib.Core.List.{List, [], ◌∷◌}
 use Prim.Native.Nat.{ℕ, ◌+◌, ◌≤◌, ◌<◌}
 use native.Mathlib.Omega.{arith}
-use lib.ListN.{length, drop, set, replicate, length-drop, length-set, length-replicate}
+use lib.ListN.{length, drop, set, length-drop, length-set, length-replicate}
 use borrow.Author.Tests.{lt-ltb}
-use Rattle.laws.specs.Sweep.{fold}
+use Rattle.std.specs.List.{fold}
+use Rattle.std.proofs.lemmas.List.Folds.{fold_stays}
 use Rattle.meter.specs.declared.Meter.{Meter}
 use Rattle.meter.specs.View.{blank_meter_value}
 use Rattle.list.specs.Layout.{Listed, Layout, fits, no_fit, read_records}
@@ -22,20 +23,11 @@ use Rattle.list_open.specs.ProgramGather.{no_meters_value, with_meter, with_reco
 use Rattle.list_open.specs.declared.Meters.{Meters}
 use Rattle.list_open.proofs.LaidLaws.{laid_out}
 
-pub none_is : {m : Meter} → m ≡ blank_meter_value → ◌≡◌ {A = Meters} (record { meters = replicate most_meters m; count = 0 }) no_meters_value
-unfolding no_meters_value
-none_is e = ap (λ (m : Meter). record { meters = replicate most_meters m; count = 0 }) e
-
 -- a meter in the place of the count
 abbrev pub stored : Meters → Meter → Meters
 stored a m = record { meters = set a.meters a.count m; count = a.count + 1 }
 
 module _ (bus : ℕ) (practice : Bool) where
-  -- a refused opening takes in no more
-  pub kept : (e : Refusal) (rs : List Listed) → fold (take_in bus practice) (Err e) rs ≡ Err e
-  kept e [] = refl
-  kept e (r ∷ rs) = kept e rs
-
   pub takes_meter : (a : Meters) (r : Listed) {v : Values} → a.count < most_meters → Ok v ≡ at_index a.count (checked_of r) → take_in bus practice (Ok a) r ≡ Ok (stored a (fresh_of bus practice v))
   unfolding with_record with_meter
   takes_meter a r {v} h e = ap (with_record bus practice a) (sym e) ∙ rw (lt-ltb a.count most_meters h)
@@ -94,7 +86,7 @@ module _ {s : List ℕ} {bus : ℕ} {practice : Bool} {bs : List ℕ} {a : Meter
     pub gathered_fails : {e : Refusal} → Err e ≡ at_index a.count (checked_of r) → Err e ≡ gathered_of bus practice (read_records (length s) (drop 3 s))
     gathered_fails {e} h =
         sym (g.is ∙ ap (fold (take_in bus practice) (Ok a)) split.2 ∙ ap (λ (x : Result Meters Refusal). fold (take_in bus practice) x split.0) (takes_failing bus practice a r h)
-        ∙ kept bus practice e split.0)
+        ∙ fold_stays (take_in bus practice) (Err e) (λ r. refl) split.0)
 
     pub gathered_more : {v : Values} {m : Meter} → Ok v ≡ at_index a.count (checked_of r) → m ≡ fresh_of bus practice v → Gathered s bus practice rest (stored a m)
     gathered_more {v} {m} e w =

@@ -7,7 +7,7 @@ use Prim.Native.Nat.{ℕ, ◌≤◌, ◌<◌}
 use native.Mathlib.Nat.{zero-add}
 use native.Mathlib.Omega.{arith}
 use lib.ListN.{length, take, length-map, length-replicate}
-use Rattle.laws.specs.Sweep.{fold}
+use Rattle.std.specs.List.{fold}
 use Rattle.meter.specs.Meter.{rates}
 use Rattle.meter.specs.View.{blank_meter_value, plain_meter}
 use Rattle.list_check.specs.Tables.{is_rate_value}

@@ -11,8 +11,9 @@ use lib.Dec.{eqb}
 use lib.ListN.{length, take, set, length-set}
 use lib.Seq.{take-suc-set}
 use borrow.Author.Tests.{eqb-true, eqb-false, ne_eqb}
+use Rattle.std.proofs.lemmas.List.Folds.{fold_stays}
 use Rattle.list_open.specs.Opening.{most_meters, first_failing}
-use Rattle.laws.specs.Sweep.{fold}
+use Rattle.std.specs.List.{fold}
 use Rattle.laws.proofs.Lists.{and_l, and_r}
 use Rattle.meter.specs.PlainMeter.{PlainMeter}
 use Rattle.meter.specs.View.{plain_meter}
@@ -28,7 +29,7 @@ use Rattle.list_check.specs.declared.refusal.Refusal.TheVariants.{AtRecord}
 use Rattle.list_open.specs.declared.Meters.{Meters}
 use Rattle.list_meter.proofs.FreshLaws.{fresh-plain}
 use Rattle.list_open.proofs.FirstLaws.{first_number, first-later, first_here, number-later, number_here}
-use Rattle.list_open.proofs.GatherLaws.{stored, kept, takes_meter, takes_failing}
+use Rattle.list_open.proofs.GatherLaws.{stored, takes_meter, takes_failing}
 use Rattle.list_check.proofs.VerdictLaws.{check-number}
 
 -- the meters so far
@@ -118,7 +119,7 @@ module _ (bus : ℕ) (practice : Bool) where
           let l = first_here r rs e in
           record {
             by = AtRecord (failing_of (check r)) a.count;
-            is = ap (λ (x : Result Meters Refusal). fold (take_in bus practice) x rs) (failed a r n) ∙ kept bus practice (AtRecord (failing_of (check r)) a.count) rs;
+            is = ap (λ (x : Result Meters Refusal). fold (take_in bus practice) x rs) (failed a r n) ∙ fold_stays (take_in bus practice) (Err (AtRecord (failing_of (check r)) a.count)) (λ r. refl) rs;
             index = omega (arith, l);
             number = check-number r n ∙ sym (number_here r rs e);
           }

@@ -1,7 +1,7 @@
 -- What the program makes of the list's records, one after another: its meters, or the first record that fails. That it
 -- comes to 01's opening is proved (proofs/GivenLaws).
 use Rattle.std.specs.Prelude.{◌≡◌, Bool, List, ℕ, ◌+◌, ◌≤◌, ltb, set, replicate, if◌then◌else◌, Result, Ok, Err}
-use Rattle.laws.specs.Sweep.{fold}
+use Rattle.std.specs.List.{fold}
 use Rattle.list_open.specs.Opening.{most_meters}
 use Rattle.meter.specs.View.{blank_meter_value}
 use Rattle.meter.specs.declared.Meter.{Meter}

@@ -21,7 +21,8 @@ pub struct Meters {
     pub count: usize,
 }
 
-// A list opened at a baud: 1, 2 and 3 by the whole layout, then 4 to 9 by the first record that fails, then 10.
+// A list opened at a baud, with the practice flag (two parameters, as in the C interface): 1, 2 and 3 by the whole layout,
+// then 4 to 9 by the first record that fails, then 10.
 pub fn meters_of(list: &[u8], bus: u32, practice: bool) -> Result<Meters, Refusal>
     ensures { MetersGiven list.now bus practice result }
 {

@@ -14,6 +14,7 @@ use list_meter::fresh;
 use meter::Meter;
 
 // Before the first record: a place for each meter, and no meter yet.
+#[tactic(auto, unfolding(crate::specs::ProgramGather::no_meters_value))]
 pub fn begin() -> Meters
     ensures { result ≡ no_meters_value }
 {
@@ -30,7 +31,8 @@ fn values_at(index: usize, listed: Listed) -> Result<Values, Refusal>
     check(listed).map_err(|failing| Refusal::AtRecord(failing, index))
 }
 
-// The list's meters, each stored in its place. The first record that fails refuses the opening.
+// The list's meters, each stored in its place. The first record that fails refuses the opening. By `while let`, since the
+// reader is no `Iterator`.
 pub(crate) fn gather(list: &[u8], bus: u32, practice: bool) -> Result<Meters, Refusal>
     requires { Few list.now }
     ensures { result ≡ gathered_of bus practice (read_records (length list.now) (drop 3 list.now)) }

@@ -22,9 +22,6 @@ use Rattle.list_check.specs.declared.tables.Keyed.{Keyed}
 use Rattle.list_check.specs.declared.tables.Medium.{Medium as Valued}
 use Rattle.list_write.specs.Record.{same_model_value, is_of_medium, medium_text, fault_text}
 
-other : {A : Type 0} → ◌≡◌ {A = Bool} false true → A
-other e = let z : ◌≡◌ {A = ℕ} 0 1 = cc in absurd (omega arith)
-
 -- ---- `==` on models
 
 pub same_model_lem : (a b : Model) → sameb the_type a b ≡ same_model_value a b
@@ -60,27 +57,6 @@ found_key (r ∷ rs) v = rw (same_model_lem r.value.model v.model) (go (is_of_me
         ≡ cond b r.key.now (medium_text (map row_of rs) v.code v.model)
     go true h = refl
     go false h = h
-
--- ---- models
-
--- no two models have one number
-pub same_model_is : (a b : Model) → same_model_value a b ≡ true → a ≡ b
-same_model_is Heat Heat e = refl
-same_model_is Heat Electricity e = other e
-same_model_is Heat Water e = other e
-same_model_is Heat Fixed e = other e
-same_model_is Electricity Heat e = other e
-same_model_is Electricity Electricity e = refl
-same_model_is Electricity Water e = other e
-same_model_is Electricity Fixed e = other e
-same_model_is Water Heat e = other e
-same_model_is Water Electricity e = other e
-same_model_is Water Water e = refl
-same_model_is Water Fixed e = other e
-same_model_is Fixed Heat e = other e
-same_model_is Fixed Electricity e = other e
-same_model_is Fixed Water e = other e
-same_model_is Fixed Fixed e = refl
 
 -- ---- how long they are
 

@@ -1,5 +1,4 @@
 pub mod LetterLaws
 pub mod LengthLaws
-pub mod PutLaws
 pub mod RestLaws
 pub mod KeyLaws

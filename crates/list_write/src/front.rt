@@ -7,6 +7,7 @@ ghost use Rattle.list_write.specs.ProgramRecord.{front_of_value};
 use meter::Meter;
 
 // 0 where it equals the bus baud.
+#[tactic(auto, unfolding(crate::specs::Record::listed_baud))]
 fn own_baud(bus: u32, baud: u32) -> u32
     ensures { result ≡ listed_baud bus baud }
 {
@@ -21,7 +22,7 @@ fn digit(d: u32) -> u8
     b'0' + (d as u8)
 }
 
-// Primary, version, own baud, and the id after its length.
+// Primary, version, own baud, and the id after its length: a line a digit, as the definition has them.
 pub(crate) fn front_of(bus: u32, m: Meter) -> [u8; 15]
     ensures { result ≡ front_of_value (record_for bus (plain_meter m)) }
 {

@@ -18,6 +18,7 @@ fn key_of<T: PartialEq>(rows: &'static [Keyed<T>], value: &T) -> &'static [u8]
 }
 
 // The key of a record's medium.
+#[tactic(auto, unfolding(list_check::specs::Tables::media), using(crate::proofs::KeyLaws::found_key))]
 pub(crate) fn medium_key(medium: Medium) -> &'static [u8]
     ensures { result.now ≡ medium_text media medium.code medium.model }
 {

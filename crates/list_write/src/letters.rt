@@ -19,6 +19,7 @@ fn letter(n: u16) -> u8
 }
 
 // The three letters of a code.
+#[tactic(auto, unfolding(crate::specs::Record::capitals))]
 pub(crate) fn capitals_of(code: u16) -> [u8; 3]
     ensures { result ≡ capitals code }
 {
@@ -29,7 +30,8 @@ pub(crate) fn capitals_of(code: u16) -> [u8; 3]
     ]
 }
 
-// How many letters there are: none for a heat_old with the code 0.
+// How many letters are written: none for a heat_old with the code 0. It is a length, and no `Option` of the letters: a
+// text of no letters is written too.
 pub(crate) fn letters(code: u16, medium: Medium) -> usize
     ensures { (result ≡ length (manufacturer_text code medium.code medium.model)) × (result ≤ 3) }
 {

@@ -1,11 +1,11 @@
 // Reads a meter list from standard input, at most 65,536 bytes, and writes what a search of its meters finds.
 #![tactic(auto)]
 
+use listing_text::INPUT;
 use std::io;
 use std::io::Read;
 
-// More of the input is not read. Arrays and no `Vec`: allocating would bring further C contracts into what is trusted.
-const INPUT: usize = 65536;
+// Arrays and no `Vec`: allocating would bring further C contracts into what is trusted.
 
 // Where reading or writing fails a line on standard error says so, and the status is 0 all the same.
 fn main(rt: HostRuntime) {

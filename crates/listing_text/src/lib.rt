@@ -7,7 +7,9 @@ ghost use Rattle.listing_text.specs.Listing.{list_in, listing_of};
 ghost use Rattle.listing_text.specs.ProgramListing.{OpensSite};
 ghost use Rattle.listing_text.specs.Text.{Prints};
 
+use laws::answer::Numbered;
 use list_check::refusal::Refusal;
+use search::{EntryRecord, search};
 use segment::{METERS, Segment};
 use segment_image::IMAGE;
 use time_clock::Clock;
@@ -22,7 +24,7 @@ use page::Page;
 pub const TEXT: usize = 38 + 25 * METERS;
 
 // Input past so many bytes is not read.
-const INPUT: usize = 65536;
+pub const INPUT: usize = 65536;
 
 fn clock() -> Clock
     ensures { result ≡ october }
@@ -54,14 +56,16 @@ fn list_into(input: &[u8], page: &mut Page)
     if let Err(refusal) = open_list(&mut image, input) {
         return page.push_refusal(refusal.number());
     }
-    match search::search_listed(&mut image, clock(), 10000, METERS) {
-        Ok(found) => { page.push_report(&found.entries[..found.count.min(METERS)], found.probes) }
+    let mut records = [EntryRecord::default(); METERS];
+    match search(&mut image, clock(), 10000, &mut records) {
+        Ok(found) => page.push_report(&records[..found.count.min(METERS)], found.probes),
         Err(_) => page.push_report(&[], 0),
     }
 }
 
-// What the listing program writes for what it reads: the text at the start of the lent bytes, and its length.
-// The bytes are lent and no `Vec`: allocating would bring further C contracts into what is trusted.
+// What the listing program writes for what it reads: the text at the start of the lent bytes, and its length. The page
+// has the bytes by value while it is written, and gives them back. The bytes are lent and no `Vec`: allocating would
+// bring further C contracts into what is trusted.
 pub fn listing(input: &[u8], out: &mut [u8; TEXT]) -> usize
     ensures { Prints out.old (listing_of input.now) result out.new }
 {

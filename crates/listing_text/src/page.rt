@@ -1,10 +1,10 @@
-// A text at the start of lent bytes.
+// A text at the start of lent bytes. No type of list_write's: its `push` would be public, which may have no `requires`.
 ghost use Rattle.std.specs.Prelude.{◌≡◌, ◌≤◌, length};
 ghost use Rattle.listing_text.specs.Text.{room};
 
 use crate::TEXT;
 
-// `len` bytes are written, the others are as they were lent.
+// `len` bytes are written, the others are as they were lent. Some clauses begin at 0, since their text is the first.
 #[derive(Drop)]
 pub struct Page {
     pub bytes: [u8; TEXT],

@@ -1,4 +1,5 @@
-// Models and faults by their numbers, and the numbers. Any byte means one of each, so that no conversion fails.
+// Models and faults by their numbers, and the numbers. Any byte means one of each, so that no conversion fails. Each is a
+// match of its own: a table for one generic function would have the same rows.
 ghost use Rattle.std.specs.Prelude.{◌≡◌};
 ghost use Rattle.meter.specs.Kinds.{model_by, fault_by, model_byte_value, fault_byte_value};
 

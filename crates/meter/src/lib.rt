@@ -20,8 +20,9 @@ pub fn rate_of(n: u8) -> Option<u32>
 }
 
 // The fault of a meter; `None` is one of the seven words that a list has for it.
-#[derive(Clone, Copy, PartialEq, Eq, Debug)]
+#[derive(Clone, Copy, PartialEq, Eq, Debug, Default)]
 pub enum Fault {
+    #[default]
     None,
     Checksum,
     Truncated,
@@ -35,8 +36,9 @@ pub enum Fault {
     TooMany,
 }
 
-#[derive(Clone, Copy, PartialEq, Eq, Debug)]
+#[derive(Clone, Copy, PartialEq, Eq, Debug, Default)]
 pub enum Model {
+    #[default]
     Heat,
     Electricity,
     Water,
@@ -44,8 +46,8 @@ pub enum Model {
     Fixed,
 }
 
-// What an opening fixes.
-#[derive(Clone, Copy, PartialEq, Eq, Debug)]
+// What an opening fixes. Code of the medium and model are apart, as in the definitions and in an image.
+#[derive(Clone, Copy, PartialEq, Eq, Debug, Default)]
 pub struct Built {
     // eight BCD digits, the most significant one in the highest nibble
     pub id: u32,
@@ -58,8 +60,9 @@ pub struct Built {
     pub seed: u32,
 }
 
-// What calls change. The bytes stand together, so that they are copied as one word.
-#[derive(Clone, Copy, PartialEq, Eq, Debug)]
+// What calls change; each meter has all of it, whatever its fault, as in 01. The bytes stand together, so that they are
+// copied as one word.
+#[derive(Clone, Copy, PartialEq, Eq, Debug, Default)]
 pub struct State {
     pub primary: u8,
     pub access: u8,
@@ -80,32 +83,15 @@ pub struct Meter {
     pub state: State,
 }
 
-// What stands where there is no meter.
+// What stands where there is no meter. A derived `Default` would promise a fact for each field, and not this value.
 impl Default for Meter {
     ghost is_default = { λ m. m ≡ blank_meter_value };
 
     #[tactic(auto, unfolding(crate::specs::View::blank_meter_value))]
     fn default() -> Meter {
         Meter {
-            built: Built {
-                id: 0,
-                manufacturer: 0,
-                version: 0,
-                medium: 0,
-                model: Model::Heat,
-                fault: Fault::None,
-                seed: 0,
-            },
-            state: State {
-                primary: 0,
-                access: 0,
-                selected: false,
-                part: 0,
-                last: None,
-                readouts: 0,
-                hearing: false,
-                baud: 0,
-            },
+            built: Built::default(),
+            state: State::default(),
         }
     }
 }

@@ -1,12 +1,12 @@
 -- A telegram that does not concern a meter leaves it as it is, and it does not reply.
 use Rattle.std.specs.Prelude.{if◌then◌else◌}
 use mathlib.Core.Path.{◌≡◌, refl, sym, ap, ◌∙◌}
-use mathlib.Core.Bool.{Bool, true, false, ◌&&◌, ◌||◌, not}
+use mathlib.Core.Bool.{false, ◌&&◌, ◌||◌, not}
 use mathlib.Core.List.{List}
 use Prim.Native.Nat.{ℕ, ◌+◌, ◌*◌}
-use native.Mathlib.Omega.{arith}
 use lib.Dec.{eqb}
 use lib.Ieee.{Float}
+use Rattle.std.proofs.lemmas.Bool.{or_parts}
 use Rattle.laws.specs.Words.{at}
 use Rattle.laws.proofs.Lists.{if_all, if_with}
 use Rattle.frame.specs.Frame.{Telegram, ack, short, long}
@@ -16,10 +16,6 @@ use Rattle.meter.specs.Meter.{with_selected_value}
 use Rattle.meter_select.specs.Matching.{matches, id_matches_value}
 use Rattle.meter_step.specs.Hear.{Heard, quiet, is_nke_value, is_req_ud2_value, fcb_of_value, is_snd_ud_value, is_select_value, reaches, target, nke, request, select, commanded, listens, hear}
 use Rattle.meter_concern.specs.ProgramConcern.{concerns}
-
-or_none : (a b : Bool) → (a || b) ≡ false → (a ≡ false) × (b ≡ false)
-or_none false b h = (refl, h)
-or_none true b h = let z : ◌≡◌ {A = ℕ} 0 1 = cc in absurd (omega arith)
 
 module _ (e : Float) (k : Clock) (m : PlainMeter) where
   abbrev Idle : Heard → Type 0
@@ -52,7 +48,7 @@ module _ (e : Float) (k : Clock) (m : PlainMeter) where
       if_all Idle (not (is_snd_ud_value c)) _ _ refl
       (if_with Idle (is_select_value ci a) _ _
       (λ s.
-      let o = or_none m.selected (id_matches_value d m.digits) (sym (ap (λ b. if b then m.selected || id_matches_value d m.digits else reaches a m.primary m.selected) s) ∙ h) in
+      let o = or_parts m.selected (id_matches_value d m.digits) (sym (ap (λ b. if b then m.selected || id_matches_value d m.digits else reaches a m.primary m.selected) s) ∙ h) in
       missed d o.0 (other_id d o.1))
       (λ s.
       let o = sym (ap (λ b. if b then m.selected || id_matches_value d m.digits else reaches a m.primary m.selected) s) ∙ h in

@@ -1,7 +1,7 @@
 -- A mask over an id as one number is the match digit by digit.
 use Rattle.std.specs.Prelude.{if◌then◌else◌}
 use mathlib.Core.Path.{◌≡◌, refl, sym, ap, ap₂, ◌∙◌}
-use mathlib.Core.Bool.{Bool, true, false, ◌&&◌, ◌||◌, and-true, and-false}
+use mathlib.Core.Bool.{Bool, true, false, ◌&&◌, ◌||◌, and-true, and-false, or-false}
 use mathlib.Core.List.{List, [], ◌∷◌}
 use Prim.Native.Nat.{ℕ, ◌+◌, ◌*◌, ◌/◌, ◌%◌, ◌^◌, ◌≤◌, ◌<◌}
 use native.Mathlib.Nat.{zero-add}
@@ -10,8 +10,9 @@ use borrow.Author.Tests.{eqb-true, eq-eqb, ne_eqb, le-leb, lt-leb}
 use lib.Dec.{eqb}
 use lib.ListN.{length}
 use lib.Bits.{bit_and, and_zero_r, and_mask, and_block, and_le_l}
+use Rattle.std.proofs.lemmas.Bool.{and_from}
 use Rattle.laws.specs.Words.{at}
-use Rattle.laws.proofs.Lists.{and_l, and_r, and_both, four}
+use Rattle.laws.proofs.Lists.{and_l, and_r, four}
 use Rattle.numbers.specs.Number.{number}
 use Rattle.meter_identity.specs.Identity.{nibbles, digits_of_value}
 use Rattle.frame.specs.Frame.{long}
@@ -35,12 +36,12 @@ eqb-sym m n = eqb_as m n (eqb n m) (λ e. eq-eqb n m (sym e)) (λ e. sym (eqb-tr
 -- two numbers in two parts each
 eqb_16 : (a b x y : ℕ) → x < 16 → y < 16 → eqb (a * 16 + x) (b * 16 + y) ≡ (eqb a b && eqb x y)
 eqb_16 a b x y h k =
-    eqb_as (a * 16 + x) (b * 16 + y) (eqb a b && eqb x y) (λ e. and_both (eqb a b) (eqb x y) (eq-eqb a b (omega arith)) (eq-eqb x y (omega arith)))
+    eqb_as (a * 16 + x) (b * 16 + y) (eqb a b && eqb x y) (λ e. and_from (eqb a b) (eqb x y) (eq-eqb a b (omega arith)) (eq-eqb x y (omega arith)))
     (λ e. let p = eqb-true a b (and_l (eqb a b) (eqb x y) e) in let q = eqb-true x y (and_r (eqb a b) (eqb x y) e) in omega arith)
 
 eqb_256 : (a b x y : ℕ) → x < 256 → y < 256 → eqb (a * 256 + x) (b * 256 + y) ≡ (eqb a b && eqb x y)
 eqb_256 a b x y h k =
-    eqb_as (a * 256 + x) (b * 256 + y) (eqb a b && eqb x y) (λ e. and_both (eqb a b) (eqb x y) (eq-eqb a b (omega arith)) (eq-eqb x y (omega arith)))
+    eqb_as (a * 256 + x) (b * 256 + y) (eqb a b && eqb x y) (λ e. and_from (eqb a b) (eqb x y) (eq-eqb a b (omega arith)) (eq-eqb x y (omega arith)))
     (λ e. let p = eqb-true a b (and_l (eqb a b) (eqb x y) e) in let q = eqb-true x y (and_r (eqb a b) (eqb x y) e) in omega arith)
 
 -- ---- digits and bytes
@@ -106,7 +107,7 @@ mask_same d id h small =
     let b₀ = id % 256 in
     let b₁ = id / 0x100 % 256 in
     let b₂ = id / 0x10000 % 256 in
-    let b₃ = id / 0x1000000 in
+    let b₃ = id / 0x1000000 % 256 in
     let k : ℕ → ℕ = λ i. known_digits (at d i) in
     let low : (i : ℕ) → k i < 256 = λ i. omega (arith, known_small (at d i / 16), known_small (at d i % 16)) in
     let e : id ≡ b₀ + 256 * (b₁ + 256 * (b₂ + 256 * (b₃ + 256 * 0))) = omega arith in
@@ -150,10 +151,6 @@ eqb_times a b = eqb_as (256 * a) (256 * b) (eqb a b) (λ e. eq-eqb a b (omega ar
 
 pub seeks_as : {f g : ℕ → Bool → ℕ → Bool} {q : Seeking} → ((p : ℕ) (s : Bool) (i : ℕ) → f p s i ≡ g p s i) → Seeks f q → Seeks g q
 seeks_as e k = record { are = λ p s i r u v. k.are p s i r u v ∙ e p s i }
-
-or_false : (b : Bool) → (b || false) ≡ b
-or_false true = refl
-or_false false = refl
 
 pub seeks_every : Seeks (λ p s i. true) (record { selected = false; mask = 0; want = 0 })
 unfolding sought_by_value
@@ -211,7 +208,7 @@ seeks_mask d h small m e k =
 
 -- fewer than eight bytes match no id
 pub few_none : (d : List ℕ) → length d < 8 → (p : ℕ) (s : Bool) (i : ℕ) → s ≡ (s || id_matches_value d (digits_of_value i))
-few_none d h p s i = sym (ap (λ x. s || (x && alike (nibbles d) (digits_of_value i))) (lt-leb 8 (length d) h) ∙ or_false s)
+few_none d h p s i = sym (ap (λ x. s || (x && alike (nibbles d) (digits_of_value i))) (lt-leb 8 (length d) h) ∙ or-false s)
 
 pub reaches_everybody : (a : ℕ) → 253 < a → a < 256 → (p : ℕ) (s : Bool) (i : ℕ) → true ≡ reaches a p s
 reaches_everybody a f g p s i = grind arith

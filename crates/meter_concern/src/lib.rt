@@ -1,8 +1,7 @@
 // Whom a telegram concerns, worked out once for each telegram. The test of a meter is then a few operations on numbers.
 #![tactic(auto)]
 
-ghost use Rattle.std.specs.Prelude.{◌≡◌, Bool, true, false, ◌||◌, [], ◌∷◌, ℕ, ◌*◌, ◌<◌};
-ghost use Rattle.numbers.specs.Number.{number};
+ghost use Rattle.std.specs.Prelude.{◌≡◌, Bool, true, false, ◌||◌, ℕ, ◌*◌, ◌/◌, ◌%◌, ◌<◌};
 ghost use Rattle.frame.specs.Frame.{long};
 ghost use Rattle.frame.specs.View.{telegram_of};
 ghost use Rattle.meter_identity.specs.Identity.{digits_of_value};
@@ -12,11 +11,10 @@ ghost use Rattle.meter_concern.specs.ProgramConcern.{concerns_by};
 ghost use Rattle.meter_concern.specs.ProgramSeeking.{known_digit_value, known_digits, sought_by_value, Seeks};
 
 use frame::Frame;
-use numbers::four;
 
 // The selected, if they are sought; and those whose first bytes in an image (primary address, id and three more, low
-// byte first) have the
-// bits wanted where the mask has them. Under mask 0 everybody has 0, and nobody 1.
+// byte first) have the bits wanted where the mask has them. Under mask 0 every meter has 0, and none has 1. It is no
+// enum of the four kinds: as bits they are one test, which is made of each meter in turn.
 #[derive(Clone, Copy, PartialEq, Eq, Debug)]
 pub struct Seeking {
     pub selected: bool,
@@ -42,6 +40,15 @@ impl Seeking {
         mask: 0,
         want: 1,
     };
+
+    // Whether a meter is sought, by its first eight bytes in an image, as a number, and its selection; whatever test the
+    // Seeking stands for, it is that test.
+    pub fn seeks(self, word: u64, selected: bool) -> bool
+        ensures by { result ≡ sought_by_value self word selected }
+        ensures test { (test : ℕ → Bool → ℕ → Bool) → Seeks test self → result ≡ test (word % 256) selected (word / 256 % 4294967296) }
+    {
+        (selected & self.selected) | (word & self.mask == self.want)
+    }
 }
 
 // F for a digit of the mask that is known, and the same of the two digits of a byte.
@@ -71,13 +78,13 @@ fn by_id(data: &[u8]) -> Seeking
     if data.len() < 8 {
         return Seeking::THE_SELECTED;
     }
-    let mask = four(
+    let mask = u32::from_le_bytes([
         known(data[0]),
         known(data[1]),
         known(data[2]),
         known(data[3]),
-    );
-    let want = four(data[0], data[1], data[2], data[3]) & mask;
+    ]);
+    let want = u32::from_le_bytes([data[0], data[1], data[2], data[3]]) & mask;
     Seeking {
         selected: true,
         mask: behind_primary(mask),
@@ -99,6 +106,7 @@ fn by_address(address: u8) -> Seeking
     }
 }
 
+// The test of a select is two comparisons, as in meter_step.
 fn by_long(address: u8, ci: u8, data: &[u8]) -> Seeking
     ensures { (c : ℕ) → Seeks (concerns_by (long c address ci «data».now)) result }
 {
@@ -123,28 +131,4 @@ pub fn sought_by(frame: Frame<'_>) -> Seeking
             ..
         } => by_long(address, ci, data),
     }
-}
-
-// Whether a meter is sought, by its first eight bytes in an image and its selection; whatever test q stands for, it
-// is that test. Eight numbers and no array: they lie at eight places of an image, and an array of them would name the
-// same eight on both sides.
-pub fn is_sought(
-    q: Seeking,
-    primary: u8,
-    id0: u8,
-    id1: u8,
-    id2: u8,
-    id3: u8,
-    x: u8,
-    y: u8,
-    z: u8,
-    selected: bool,
-) -> bool
-    ensures { (result ≡ sought_by_value q (number 8 0 (primary ∷ id0 ∷ id1 ∷ id2 ∷ id3 ∷ x ∷ y ∷ z ∷ [])) selected)
-        × ((test : ℕ → Bool → ℕ → Bool) → Seeks test q → result ≡ test primary selected (number 4 0 (id0 ∷ id1 ∷ id2 ∷ id3 ∷ []))) }
-{
-    let low = four(primary, id0, id1, id2);
-    let high = four(id3, x, y, z);
-    let word = u64::from(low) + 4294967296 * u64::from(high);
-    (selected & q.selected) | (word & q.mask == q.want)
 }

@@ -1,8 +1,9 @@
 // A reply's data.
 ghost use Rattle.std.specs.Prelude.{◌≡◌, ◌≤◌, []};
 
-// The first `len` bytes. A telegram has nine bytes more, so each fits a reply. It is fixed memory, since no heap is used,
-// and no `ArrayVec` of the kit, since the statements of a ported crate would be trusted too.
+// The first `len` bytes. A telegram has nine bytes more, so that it fits a reply. A type of its own, and not that of
+// `list_write::Written`: one type for both would have a public `push`, which may have no `requires`. It is fixed memory,
+// since no heap is used, and no `ArrayVec` of the kit, since the statements of a ported crate would be trusted too.
 #[derive(Clone, Copy)]
 pub struct Data {
     pub bytes: [u8; 87],

@@ -8,7 +8,7 @@ ghost use Rattle.meter.specs.View.{plain_meter};
 ghost use Rattle.meter_data.specs.View.{held};
 
 use meter::Meter;
-use numbers::{bcd4, bcd6, le2, le4};
+use numbers::{bcd4, bcd6};
 use records::{put, put_record};
 use time_clock::Clock;
 use time_dates::type_g;
@@ -25,22 +25,25 @@ fn time_of(clock: Clock) -> [u8; 4]
     time_dates::type_f(clock.year, clock.month, clock.day, clock.hour, clock.minute)
 }
 
+// Each of the following says how much room it needs: no two need the same.
+
 // Heat, part 0, with the whole seconds since the origin.
 fn heat_first(d: &mut Data, m: Meter, clock: Clock, tick: u32)
     requires { d.old.len + 63 ≤ 87 }
     ensures { Puts (held d.old) (heat_first_value tick clock (plain_meter m)) (held d.new) }
 {
-    let seed = u64::from(m.built.seed);
-    let t = u64::from(tick);
-    put_record(d, 0x04, 0x06, le4(123_456 + seed + t / 10)); // kWh
-    put_record(d, 0x04, 0x14, le4(456_789 + seed * 3 + t / 4)); // 0.01 m³
-    put_record(d, 0x04, 0x2B, le4(12_345 + t % 50)); // W
-    put_record(d, 0x02, 0x59, le2(6523)); // 0.01 °C
-    put_record(d, 0x02, 0x5D, le2(4210));
-    put_record(d, 0x02, 0x61, le2(2313)); // 0.01 K
-    put_record(d, 0x04, 0x3B, le4(1234)); // l/h
+    // Counters of 32 bits: what is above is lost.
+    let energy = (123_456 + tick / 10).wrapping_add(m.built.seed);
+    let volume = (456_789 + tick / 4).wrapping_add(m.built.seed.wrapping_mul(3));
+    put_record(d, 0x04, 0x06, energy.to_le_bytes()); // kWh
+    put_record(d, 0x04, 0x14, volume.to_le_bytes()); // 0.01 m³
+    put_record(d, 0x04, 0x2B, (12_345 + tick % 50).to_le_bytes()); // W
+    put_record(d, 0x02, 0x59, 6523u16.to_le_bytes()); // 0.01 °C
+    put_record(d, 0x02, 0x5D, 4210u16.to_le_bytes());
+    put_record(d, 0x02, 0x61, 2313u16.to_le_bytes()); // 0.01 K
+    put_record(d, 0x04, 0x3B, 1234u32.to_le_bytes()); // l/h
     put_record(d, 0x04, 0x6D, time_of(clock));
-    put_record(d, 0x44, 0x06, le4(120_000)); // kWh at the due date
+    put_record(d, 0x44, 0x06, 120_000u32.to_le_bytes()); // kWh at the due date
     put_record(d, 0x42, 0x6C, type_g(2026, 9, 30));
     put_record(d, 0x01, 0xFD, [0x17, 0x00]);
     put_record(d, 0x0C, 0x78, meter_identity::id_bytes(m.built.id));
@@ -53,7 +56,7 @@ fn heat_second(d: &mut Data)
     ensures { Puts (held d.old) heat_second_value (held d.new) }
 {
     put(d, [0x84]);
-    put_record(d, 0x01, 0x06, le4(110_000)); // kWh a year before
+    put_record(d, 0x01, 0x06, 110_000u32.to_le_bytes()); // kWh a year before
     put(d, [0x82]);
     put_record(d, 0x01, 0x6C, type_g(2025, 9, 30));
     put_record(d, 0x0F, 0x01, [0x02, 0x03]);
@@ -71,12 +74,12 @@ fn electricity(d: &mut Data, m: Meter, tick: u32)
     put_record(d, 0x10, 0x03, bcd6(8_000_000));
     put(d, [0x8E]);
     put_record(d, 0x20, 0x03, bcd6(4_345_678));
-    put_record(d, 0x04, 0x2B, le4(2_300 + t % 100)); // W
+    put_record(d, 0x04, 0x2B, (2_300 + tick % 100).to_le_bytes()); // W
     put_record(d, 0x05, 0x2E, [0x00, 0x00, 0x60, 0x40]); // 3.5 kW as an f32
     put(d, [0x04]);
-    put_record(d, 0xFD, 0x48, le4(2301)); // 0.1 V
+    put_record(d, 0xFD, 0x48, 2301u32.to_le_bytes()); // 0.1 V
     put(d, [0x04]);
-    put_record(d, 0xFD, 0x59, le4(5123)); // mA
+    put_record(d, 0xFD, 0x59, 5123u32.to_le_bytes()); // mA
     // firmware "1.02", four bytes, backwards
     put_record(d, 0x0D, 0xFD, [0x0E, 0x04, 0x32, 0x30, 0x2E, 0x31]);
 }
@@ -100,7 +103,7 @@ fn head(m: Meter) -> Data
 {
     let mut d = Data::new();
     put(&mut d, meter_identity::id_bytes(m.built.id));
-    put(&mut d, le2(u64::from(m.built.manufacturer)));
+    put(&mut d, m.built.manufacturer.to_le_bytes());
     put(
         &mut d,
         [
@@ -131,7 +134,7 @@ pub fn fixed_data(m: Meter, elapsed: f64) -> Data
     d
 }
 
-// What stands behind CI 72: the head, and the records.
+// What stands behind CI 72: the head, and the records. Meter, clock and time are parameters of their own, as in 01.
 pub fn heat_data(m: Meter, clock: Clock, tick: u32) -> Data
     ensures { held result ≡ head (plain_meter m) ++ heat_now tick clock (plain_meter m) }
 {

@@ -4,6 +4,7 @@ use mathlib.Core.List.{List, [], ◌∷◌, ◌++◌}
 use Prim.Native.Nat.{ℕ, ◌+◌, ◌-◌, ◌*◌, ◌/◌, ◌%◌, ◌≤◌, ◌<◌}
 use native.Mathlib.Omega.{arith}
 use lib.ListN.{length, get_or}
+use Rattle.std.proofs.lemmas.Nat.{div-mul-add, mod-mul-add}
 use Rattle.laws.proofs.Lists.{of_eight}
 use Rattle.laws.specs.Words.{Every}
 use Rattle.numbers.specs.Values.{little}
@@ -42,12 +43,6 @@ code_three (k ∷ l ∷ m ∷ ls) p q r e = omega arith
 
 -- ---- ids
 
-upper : (a b : ℕ) → b < 16 → (a * 16 + b) / 16 ≡ a
-upper a b h = omega arith
-
-lower : (a b : ℕ) → b < 16 → (a * 16 + b) % 16 ≡ b
-lower a b h = omega arith
-
 pub nibbles_id : (ds rest : List ℕ) → length ds ≡ 8 → Every (λ d. d < 16) ds → nibbles (id_bytes_value ds ++ rest) ≡ ds
 unfolding id_bytes_value nibbles
 nibbles_id [] rest e h = absurd (omega arith)
@@ -61,14 +56,14 @@ nibbles_id (a ∷ b ∷ c ∷ d ∷ f ∷ g ∷ i ∷ []) rest e h = absurd (ome
 nibbles_id (a ∷ b ∷ c ∷ d ∷ f ∷ g ∷ i ∷ j ∷ k ∷ ds) rest e h = absurd (omega arith)
 nibbles_id (a ∷ b ∷ c ∷ d ∷ f ∷ g ∷ i ∷ j ∷ []) rest e h =
     rw (
-      upper a b h.1.0,
-      lower a b h.1.0,
-      upper c d h.1.1.1.0,
-      lower c d h.1.1.1.0,
-      upper f g h.1.1.1.1.1.0,
-      lower f g h.1.1.1.1.1.0,
-      upper i j h.1.1.1.1.1.1.1.0,
-      lower i j h.1.1.1.1.1.1.1.0,
+      div-mul-add a 16 b h.1.0,
+      mod-mul-add a 16 b h.1.0,
+      div-mul-add c 16 d h.1.1.1.0,
+      mod-mul-add c 16 d h.1.1.1.0,
+      div-mul-add f 16 g h.1.1.1.1.1.0,
+      mod-mul-add f 16 g h.1.1.1.1.1.0,
+      div-mul-add i 16 j h.1.1.1.1.1.1.1.0,
+      mod-mul-add i 16 j h.1.1.1.1.1.1.1.0,
     )
 
 -- the id's nibbles, two to a byte, are its bytes
@@ -80,7 +75,7 @@ id_little id =
     joined : (x y : ℕ) → y ≡ x / 16 → y % 16 * 16 + x % 16 ≡ x % 256
     joined x y e = omega arith
 
-list_same : {x y : ℕ} {xs ys : List ℕ} → x ≡ y → xs ≡ ys → x ∷ xs ≡ y ∷ ys
+pub list_same : {x y : ℕ} {xs ys : List ℕ} → x ≡ y → xs ≡ ys → x ∷ xs ≡ y ∷ ys
 list_same p q = ap₂ (λ x xs. x ∷ xs) p q
 
 -- eight nibbles, taken out of their number again

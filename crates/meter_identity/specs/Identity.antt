@@ -1,7 +1,7 @@
 -- How ids and manufacturer codes are written into bytes.
 use Rattle.std.specs.Prelude.{◌&&◌, List, [], ◌∷◌, ℕ, ◌+◌, ◌-◌, ◌*◌, ◌/◌, ◌%◌, leb, take, if◌then◌else◌}
 use Rattle.laws.specs.Words.{at}
-use Rattle.laws.specs.Sweep.{fold}
+use Rattle.std.specs.List.{fold}
 
 -- a small letter as its capital, every other byte as it is
 abbrev pub capital : ℕ → ℕ

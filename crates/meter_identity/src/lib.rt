@@ -20,7 +20,7 @@ fn letter(c: u8) -> u16
     u16::from(upper(c).saturating_sub(0x40) % 32)
 }
 
-// Five bits to each of the first three letters; an empty text gives 0.
+// Five bits to each of the first three letters; an empty text gives 0. By patterns, a line for each length.
 pub fn manufacturer_code(name: &[u8]) -> u16
     ensures { result ≡ manufacturer_code_value name.now }
 {

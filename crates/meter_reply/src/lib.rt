@@ -16,7 +16,7 @@ use meter_data::Data;
 use time_clock::Clock;
 
 // A reply: the first `len` bytes. The longest one has 84. The array is fixed memory, as that of `meter_data::Data`;
-// `frame_write` writes into it as lent bytes.
+// `frame_write` writes into it as lent bytes. It has no invariant, since `Joining::join` takes every reply.
 #[derive(Clone, Copy, PartialEq, Eq, Debug)]
 pub struct Reply {
     pub bytes: [u8; 96],

@@ -1,4 +1,5 @@
-// What each telegram does to a meter that listens.
+// What each telegram does to a meter that listens. The clauses speak of every time and clock: a readout is made of the meter
+// later. Control, address, CI and data are parameters of their own, as in the definitions.
 ghost use Rattle.std.specs.Prelude.{◌≡◌, Float};
 ghost use Rattle.frame.specs.Frame.{short, long};
 ghost use Rattle.time_clock.specs.declared.Clock.{Clock};

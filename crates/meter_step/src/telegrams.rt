@@ -1,4 +1,4 @@
-// Which telegram it is, and whether it is for a meter.
+// Which telegram it is, and whether it is for a meter: a function for each test of the requirements.
 ghost use Rattle.std.specs.Prelude.{◌≡◌, ◌-◌, ◌||◌, eqb, true, SomeIff, get_or};
 ghost use Rattle.laws.specs.Words.{at};
 ghost use Rattle.meter.specs.Meter.{rates};

@@ -1,5 +1,5 @@
-pub mod ProductLaws
 pub mod ReciprocalLaws
 pub mod ValueLaws
 pub mod Worked
 pub mod NumberLaws
+pub mod LeBytes

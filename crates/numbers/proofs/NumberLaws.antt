@@ -1,11 +1,11 @@
 -- Numbers of several bytes, over their width.
-use mathlib.Core.Path.{◌≡◌, refl, ap}
+use mathlib.Core.Path.{◌≡◌, refl, sym, ap, ap₂, ◌∙◌}
 use mathlib.Core.List.{List, ◌∷◌}
 use Prim.Native.Nat.{ℕ, zero, suc, ◌+◌, ◌*◌, ◌/◌, ◌%◌, ◌^◌, ◌<◌, ◌≤◌}
 use native.Mathlib.Nat.{zero-add, add-zero, suc-add, add-suc, pow-suc, pow-succ', mul_assoc}
 use native.Mathlib.Omega.{arith}
-use lib.ListN.{take}
-use lib.Seq.{get_or-take}
+use lib.ListN.{take, drop}
+use lib.Seq.{get_or-take, get_or-drop}
 use Rattle.laws.specs.Words.{at}
 use Rattle.numbers.specs.Values.{little}
 use Rattle.numbers.specs.Number.{number}
@@ -33,3 +33,11 @@ pub number-take : (n p k : ℕ) (bs : List ℕ) → p + n ≤ k → number n p (
 unfolding number
 number-take zero p k bs h = refl
 number-take (suc n) p k bs h = rw (get_or-take k bs p 0 (omega arith), number-take n (suc p) k bs (omega arith))
+
+-- nor have those before it
+pub number-drop : (n k p : ℕ) (bs : List ℕ) → number n (k + p) bs ≡ number n p (drop k bs)
+unfolding number
+number-drop zero k p bs = refl
+number-drop (suc n) k p bs =
+    let e : suc (k + p) ≡ k + suc p = omega arith in
+    ap₂ (λ x y. x + 256 * y) (sym (get_or-drop k bs p 0)) (ap (λ x. number n x bs) e ∙ number-drop n k (suc p) bs)

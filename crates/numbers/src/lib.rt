@@ -1,38 +1,15 @@
-// Numbers as bytes, low byte first: written, as such or in BCD, and read. The crate has no loop and calls no other crate,
-// not even std, so that `.ci/divisors` can see from its source that BCD values are made without dividing.
+// Numbers as BCD bytes, low byte first. The crate has no loop and calls no other crate, not even std, so that
+// `.ci/divisors` can see from its source that BCD values are made without dividing.
 #![tactic(auto)]
 
-ghost use Rattle.std.specs.Prelude.{◌+◌, ◌*◌, ◌/◌, ◌%◌, ◌<◌, [], ◌∷◌, ◌≡◌};
-ghost use Rattle.numbers.specs.Number.{number};
-ghost use Rattle.numbers.specs.Values.{little, bcd};
+ghost use Rattle.std.specs.Prelude.{◌+◌, ◌*◌, ◌/◌, ◌%◌, ◌<◌, ◌≡◌};
+ghost use Rattle.numbers.specs.Values.{bcd};
 
 use reciprocal::{above1, above2, above4, above8, above12};
 
 mod reciprocal; // reciprocal.rt: a number without its low decimal digits
 
-// The low byte.
-fn byte(v: u64) -> u8
-    ensures { result ≡ v % 256 }
-{
-    (v % 256) as u8
-}
-
-// Two bytes of a number, low byte first.
-#[tactic(auto, unfolding(crate::specs::Values::little))]
-pub fn le2(v: u64) -> [u8; 2]
-    ensures { result ≡ little 2 v }
-{
-    [byte(v), byte(v / 256)]
-}
-
-// Four bytes of a number, low byte first. One function for every width would need a loop or std's `to_le_bytes`.
-pub fn le4(v: u64) -> [u8; 4]
-    ensures { result ≡ little 4 v }
-{
-    let [a, b] = le2(v);
-    let [c, d] = le2(v / 65536);
-    [a, b, c, d]
-}
+// A function for each width: with the width as a const parameter there would be a loop.
 
 // Two decimal digits in a byte, the higher one in the upper nibble, where it counts 16 and not 10.
 fn digits2(x: u64) -> u8
@@ -68,20 +45,4 @@ pub fn bcd6(v: u64) -> [u8; 6]
     let [b0, b1, b2, b3] = bcd4(v);
     let [b4, b5] = digits4(above8(v) - above12(v) * 10000);
     [b0, b1, b2, b3, b4, b5]
-}
-
-// The number of two bytes, and of four, low byte first: `four` stands on `two`. Their results differ in type, so one
-// generic function would need a trait with two impls that hold these same two lines.
-#[tactic(auto, unfolding(crate::specs::Number::number))]
-pub fn two(a: u8, b: u8) -> u16
-    ensures { result ≡ number 2 0 (a ∷ b ∷ []) }
-{
-    a as u16 + 256 * (b as u16)
-}
-
-#[tactic(auto, unfolding(crate::specs::Number::number))]
-pub fn four(a: u8, b: u8, c: u8, d: u8) -> u32
-    ensures { result ≡ number 4 0 (a ∷ b ∷ c ∷ d ∷ []) }
-{
-    two(a, b) as u32 + 65536 * (two(c, d) as u32)
 }

@@ -5,7 +5,7 @@ use Prim.Native.Nat.{ℕ, zero, suc, ◌+◌, ◌*◌, ◌/◌, ◌%◌, ◌≤�
 use native.Mathlib.Omega.{arith}
 use lib.ListN.{length}
 use Rattle.laws.specs.Words.{Every}
-use Rattle.laws.specs.Sweep.{fold}
+use Rattle.std.specs.List.{fold}
 use Rattle.meter_identity.specs.Identity.{in_base, digits_of_value}
 use Rattle.meter_identity.proofs.IdentityLaws.{nibbles_back}
 

@@ -16,5 +16,4 @@ pub mod PackLaws
 pub mod PackStart
 pub mod MadeLaws
 pub mod SearchCoreLaws
-pub mod Filled
-pub mod ListedLaws
+pub mod LentLaws

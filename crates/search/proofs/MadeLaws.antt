@@ -3,12 +3,11 @@ use Rattle.std.specs.Prelude.{Ok}
 use mathlib.Core.Path.{◌≡◌, sym, ap, ap₂, ◌∙◌, subst}
 use mathlib.Core.Bool.{true}
 use mathlib.Core.List.{List, [], ◌++◌, map}
-use Prim.Native.Nat.{ℕ, ◌≤◌, min}
+use Prim.Native.Nat.{ℕ, ◌≤◌}
 use native.Mathlib.Omega.{arith}
-use lib.ListN.{length, take, drop, length-take, length-map}
+use lib.ListN.{length, take, drop, length-map}
 use Rattle.laws.specs.Refusal.{not_refused}
 use Rattle.laws.specs.Words.{Every}
-use Rattle.laws.proofs.Copying.{take_min}
 use Rattle.laws.proofs.Lists.{every_map}
 use Rattle.meter.specs.PlainMeter.{PlainMeter}
 use Rattle.time_clock.specs.declared.Clock.{Clock}
@@ -23,13 +22,11 @@ use Rattle.segment_send.proofs.SendLaws.{at_rest_value}
 use Rattle.search_walk.specs.Walk.{Walked, whole_walk}
 use Rattle.search_walk.proofs.Program.{held_all}
 use Rattle.search_walk.proofs.Fits.{Idle, walk-fits-meters}
-use Rattle.search_packed.specs.declared.Found.{Found}
-use Rattle.search_packed.specs.ProgramPacked.{PackedRun, packed_whole, found_of, Goes}
+use Rattle.search_packed.specs.ProgramPacked.{PackedRun, Walking, packed_whole, walk_all_value}
 use Rattle.search.specs.declared.EntryRecord.{EntryRecord}
-use Rattle.search.specs.declared.Entries.{Entries}
 use Rattle.search.specs.SearchCall.{record_of_value, search_gave}
 use Rattle.search.specs.ProgramPacking.{key_of_value, mark_of_value, packed, Bounded, unmarked, record_in}
-use Rattle.search.specs.View.{entries_give}
+use Rattle.search.specs.View.{searched_of}
 use Rattle.search.specs.ProgramSearch.{packed_walk_of, Walks}
 use Rattle.search.proofs.KeyDigits.{digits_eight}
 use Rattle.search.proofs.PackStart.{packed_hold, packed_seen, swept_seen}
@@ -38,28 +35,16 @@ use Rattle.search.proofs.PackedWalk.{whole_same}
 
 -- ---- what the walk over packed meters gives
 
-module _ (old new : List ℕ) (allowance : ℕ) (f : Found) (ks ss : List ℕ) (rs : List EntryRecord) (n : ℕ) where
-  pub walks : ks ≡ packed key_of_value (decode_image old).meters → ss ≡ packed (mark_of_value (decode_image old).baud) (decode_image old).meters → Every Bounded (decode_image old).meters → Goes ks ss allowance f
-      → Becomes old (unmarked f.marks (decode_image old)) new
-      → take (min f.found capacity) rs ≡ map record_in (take (min f.found capacity) f.entries) → n ≡ min f.found capacity
-      → Walks old allowance (record { entries = rs; count = n; probes = f.probes; spent = f.spent }) new
-  unfolding found_of packed_walk_of
-  walks k m b g u r c =
-      let e : found_of f ≡ packed_walk_of (decode_image old) allowance = g.run ∙ ap₂ (λ x y. packed_whole x y allowance) k m in
-      let all : take (min f.found capacity) f.entries ≡ take f.found f.entries = ap (λ l. take (min f.found l) f.entries) (sym g.entries) ∙ take_min f.found f.entries in
-      record {
-        entries = ap (λ j. take j rs) c ∙ r ∙ ap (map record_in) (all ∙ ap (λ (t : PackedRun). t.entries) e);
-        count = c ∙ ap (λ l. min f.found l) (sym g.entries) ∙ sym (length-take f.found f.entries) ∙ ap (λ (t : PackedRun). length t.entries) e;
-        probes = ap (λ (t : PackedRun). t.probes) e;
-        spent = ap (λ (t : PackedRun). t.spent) e;
-        image = becomes_as (ap (λ (t : PackedRun). unmarked t.marks (decode_image old)) e) u;
-        marks = ap (λ (t : PackedRun). length t.marks) (sym e) ∙ g.marks;
-        bounded = b;
-      }
+module _ (old new : List ℕ) (allowance : ℕ) (ks ss : List ℕ) where
+  pub walks : ks ≡ packed key_of_value (decode_image old).meters → ss ≡ packed (mark_of_value (decode_image old).baud) (decode_image old).meters → Every Bounded (decode_image old).meters
+      → {w : Walking} → w ≡ walk_all_value ks ss allowance → Becomes old (unmarked w.run.marks (decode_image old)) new → length w.run.marks ≡ capacity
+      → Walks old allowance w new
+  unfolding packed_walk_of
+  walks k m b e u l = record { run = ap (λ (w : Walking). w.run) e ∙ ap₂ (λ x y. packed_whole x y allowance) k m; image = u; marks = l; bounded = b }
 
 -- ---- a search that was made
 
-module _ (old : List ℕ) (k : Clock) (allowance : ℕ) (r : Entries) (new : List ℕ) (gc : good_clock_value k ≡ true) (i : (decode_image old).input ≡ []) (q : (decode_image old).queue ≡ []) (x : Walks old allowance r new) where
+module _ (old : List ℕ) (k : Clock) (allowance : ℕ) (w : Walking) (new : List ℕ) (gc : good_clock_value k ≡ true) (i : (decode_image old).input ≡ []) (q : (decode_image old).queue ≡ []) (x : Walks old allowance w new) where
   abbrev s : Plain
   s = decode_image old
 
@@ -102,18 +87,22 @@ module _ (old : List ℕ) (k : Clock) (allowance : ℕ) (r : Entries) (new : Lis
   entries_are : map record_in t.entries ≡ map record_of_value v.entries
   entries_are = same.0 ∙ held_all record_of_value capacity v.entries (omega (arith, fitting, few))
 
-  pub count_is : r.count ≡ length v.entries
-  count_is = x.count ∙ sym (length-map t.entries record_in) ∙ ap length entries_are ∙ length-map v.entries record_of_value
+  pub count_is : length w.run.entries ≡ length v.entries
+  count_is = ap (λ (t : PackedRun). length t.entries) x.run ∙ sym (length-map t.entries record_in) ∙ ap length entries_are ∙ length-map v.entries record_of_value
 
   segment_is : decode_image new ≡ v.segment
-  segment_is = x.image.means ∙ at_rest _ _ (swept_seen s.baud t.marks s.meters (omega (arith, few, x.marks))) ∙ same.3
+  segment_is =
+      (becomes_as (ap (λ (t : PackedRun). unmarked t.marks s) x.run) x.image).means
+      ∙ at_rest _ _ (swept_seen s.baud t.marks s.meters (omega (arith, few, x.marks, ap (λ (t : PackedRun). length t.marks) x.run))) ∙ same.3
 
-  pub made : (lent : List EntryRecord) → entries_give (Ok r) (decode_image new) lent ≡ search_gave lent v
-  made lent = λ j. record {
+  pub made : (lent after : List EntryRecord) (n : ℕ) → n ≡ length w.run.entries → after ≡ map record_in w.run.entries ++ drop (length w.run.entries) lent
+      → searched_of (Ok (record { count = n; probes = w.run.probes; spent = w.run.spent })) after (decode_image new) ≡ search_gave lent v
+  unfolding searched_of
+  made lent after n c e = λ j. record {
     number = not_refused;
-    count = count_is j;
-    probes = (x.probes ∙ same.1) j;
-    spent = (x.spent ∙ same.2) j;
-    lent = (x.entries ∙ entries_are) j ++ drop (count_is j) lent;
+    count = (c ∙ count_is) j;
+    probes = (ap (λ (t : PackedRun). t.probes) x.run ∙ same.1) j;
+    spent = (ap (λ (t : PackedRun). t.spent) x.run ∙ same.2) j;
+    lent = (e ∙ ap₂ (λ y z. y ++ drop z lent) (ap (λ (t : PackedRun). map record_in t.entries) x.run ∙ entries_are) count_is) j;
     segment = segment_is j;
   }

@@ -1,17 +1,16 @@
 -- Packing and unpacking: the loops, and the small choices.
 use mathlib.Core.Path.{◌≡◌, refl, sym, ap, ap₂, ◌∙◌, subst}
 use mathlib.Core.List.{List, [], ◌∷◌, ◌++◌, map}
-use Prim.Native.Nat.{ℕ, zero, suc, ◌+◌, ◌*◌, ◌/◌, ◌%◌, ◌≤◌, ◌<◌, max}
+use Prim.Native.Nat.{ℕ, zero, suc, ◌+◌, ◌*◌, ◌/◌, ◌%◌, ◌<◌, max}
 use native.Mathlib.Nat.{le_of_suc-le-suc, not-suc-le-zero}
 use native.Mathlib.Numerals.{add-one}
 use native.Mathlib.Omega.{arith}
 use borrow.Author.Tests.{eq-eqb, ne_eqb}
 use lib.ListN.{length, take, drop, set, get_or, replicate, get_or-map, length-map}
 use lib.Seq.{take_all}
-use Rattle.laws.proofs.Lists.{map-take}
 use Rattle.laws.specs.Words.{Every, bit_if}
 use Rattle.meter_identity.specs.Identity.{digits_of_value}
-use Rattle.laws.proofs.Copying.{Copied, copied_none, copied_more, copied_first, copied_front}
+use Rattle.laws.proofs.Copying.{Copied, copied_none, copied_more, copied_front}
 use Rattle.meter.specs.PlainMeter.{PlainMeter}
 use Rattle.meter.specs.Meter.{with}
 use Rattle.meter.specs.View.{plain_meter}
@@ -54,10 +53,10 @@ module _ {A B : Type 0} {f : A → B} {d : List B} {xs : List A} where
     mapped_more z h k e =
         record { copied = copied_more (f z) c.copied (omega arith) (omega arith) (omega (arith, length-map xs f)) (e ∙ sym (get_or-map f xs i z)) }
 
-    pub mapped_first : (n : ℕ) → i ≡ n → i ≤ length xs → take n l ≡ map f (take n xs)
-    mapped_first n e h =
-        let g : n ≡ 0 + i = omega arith in
-        ap (λ (j : ℕ). take j l) g ∙ copied_first c.copied (omega arith) (omega (arith, length-map xs f)) ∙ ap (λ (j : ℕ). take j (map f xs)) e ∙ sym (map-take f n xs)
+    pub mapped_all : i ≡ length xs → l ≡ map f xs ++ drop (length xs) d
+    mapped_all e =
+        copied_front c.copied ∙ ap (λ (j : ℕ). take j (map f xs) ++ drop j d) e
+        ∙ ap (λ (x : List B). x ++ drop (length xs) d) (take_all (length xs) (map f xs) (omega (arith, length-map xs f)))
 
 module _ {A : Type 0} (P : A → Type 0) where
   every_more : (xs : List A) (i : ℕ) (z : A) → i < length xs → Every P (take i xs) → P (get_or xs i z) → Every P (take (i + 1) xs)
@@ -83,8 +82,7 @@ module _ (l : List ℕ) where
     unfolding packed
     packed_all e z =
         let xs = (decode_image l).meters in
-        copied_front c.copied ∙ ap (λ (j : ℕ). take j (map f xs) ++ drop j d) e
-        ∙ ap₂ (λ x y. x ++ drop (length xs) y) (take_all (length xs) (map f xs) (omega (arith, length-map xs f))) z
+        mapped_all c e ∙ ap (λ y. map f xs ++ drop (length xs) y) z
 
   module _ (P : PlainMeter → Type 0) (i : ℕ) (q : Every P (take i (decode_image l).meters)) where
     pub read_more : (m : Meter) → i < length (decode_image l).meters → plain_meter m ≡ meter_in i l → P (plain_meter m) → Every P (take (i + 1) (decode_image l).meters)

@@ -4,6 +4,7 @@ use mathlib.Core.Path.{◌≡◌, refl, sym, ap, ap₂, ◌∙◌, subst}
 use mathlib.Core.Bool.{Bool, true, false}
 use mathlib.Core.List.{List, [], ◌∷◌, ◌++◌, map}
 use Prim.Native.Nat.{ℕ, zero, suc, ◌+◌, ◌*◌, ◌/◌, ◌%◌, ◌≤◌, ◌<◌}
+use native.Mathlib.Nat.{mod-eq_of_lt}
 use native.Mathlib.Omega.{arith}
 use lib.Dec.{eqb}
 use lib.ListN.{length, drop, replicate}
@@ -96,12 +97,9 @@ module _ (bus : ℕ) (m : PlainMeter) (z : Bounded m) where
       record {
         small = z.key;
         digits = z.digits;
-        bits = λ e. bits_kept m.fault (fault_bits_value m.fault) s ((parts e).4 ∙ nibble (fault_bits_value m.fault / 16) (fault_bits_lem m.fault).1) (fault_bits_lem m.fault).2;
+        bits = λ e. bits_kept m.fault (fault_bits_value m.fault) s ((parts e).4 ∙ sym (mod-eq_of_lt (fault_bits_lem m.fault).1)) (fault_bits_lem m.fault).2;
         away = λ e. subst Silent (sym (elsewhere e)) silent_zero;
       }
-    where
-      nibble : (x : ℕ) → x < 16 → x ≡ x % 16
-      nibble x h = omega arith
 
 -- ---- all meters
 

@@ -10,6 +10,7 @@ use lib.Dec.{eqb, leb, ltb}
 use lib.Ieee.{Float}
 use borrow.Author.Tests.{ne_eqb, leb-true, leb-false}
 use lib.ListN.{length, take, length-append, length-map}
+use Rattle.std.proofs.lemmas.List.{map_push}
 use Rattle.meter.specs.PlainMeter.{PlainMeter}
 use Rattle.time_clock.specs.declared.Clock.{Clock}
 use Rattle.list_open.specs.Opening.{capacity}
@@ -46,10 +47,6 @@ ten-from = refl
 abbrev push : Entry → List EntryRecord → List EntryRecord
 push e es = push_up_to capacity (record_of_value e) es
 
-map_snoc : (es : List ℕ) (n : ℕ) → map record_in (es ++ n ∷ []) ≡ map record_in es ++ record_in n ∷ []
-map_snoc [] n = refl
-map_snoc (e ∷ es) n = ap (λ r. record_in e ∷ r) (map_snoc es n)
-
 push_is : (e : Entry) (n : ℕ) (es : List ℕ) → record_of_value e ≡ record_in n → push e (map record_in es) ≡ map record_in (packed_push n es)
 unfolding packed_push
 push_is e n es h =
@@ -57,7 +54,7 @@ push_is e n es h =
     ∙ go (ltb (length es) capacity)
   where
     go : (b : Bool) → (if b then map record_in es ++ record_in n ∷ [] else map record_in es) ≡ map record_in (if b then es ++ n ∷ [] else es)
-    go true = sym (map_snoc es n)
+    go true = sym (map_push record_in es n)
     go false = refl
 
 -- ---- the walk

@@ -2,24 +2,24 @@
 use Rattle.std.specs.Prelude.{Ok, Err}
 use mathlib.Core.Path.{◌≡◌, refl, sym, ap, ◌∙◌}
 use mathlib.Core.Bool.{Bool, true, false, ◌&&◌, not}
-use mathlib.Core.List.{List, [], ◌∷◌}
+use mathlib.Core.List.{List, [], ◌∷◌, ◌++◌, map}
 use Prim.Native.Nat.{ℕ, suc, ◌≤◌, ◌<◌}
 use native.Mathlib.Omega.{arith}
 use lib.Dec.{eqb}
 use borrow.Author.Tests.{eq-eqb, ne_eqb, lt-ltb, le-ltb, eqb-true, not-true, not-false}
-use lib.ListN.{length}
+use lib.ListN.{length, drop}
 use Rattle.laws.proofs.Lists.{and_l, and_r}
 use Rattle.time_clock.specs.declared.Clock.{Clock}
 use Rattle.segment.specs.Plain.{Plain}
 use Rattle.time_clock.specs.Fields.{good_clock_value}
 use Rattle.segment_image.specs.Image.{decode_image, encode_image}
-use Rattle.segment_places.proofs.PlaceLaws.{meters_few}
+use Rattle.search.specs.ProgramPacking.{record_in}
 use Rattle.search.specs.declared.EntryRecord.{EntryRecord}
 use Rattle.search.specs.declared.SearchError.{SearchError}
 use Rattle.search.specs.declared.SearchError.TheVariants.{ClockOutOfRange, NotEmpty, TooFewLent}
-use Rattle.search.specs.declared.Entries.{Entries}
+use Rattle.search_packed.specs.ProgramPacked.{Walking}
 use Rattle.search.specs.SearchCall.{search_refused, search_call, is_empty}
-use Rattle.search.specs.View.{error_number, SearchesIn}
+use Rattle.search.specs.View.{error_number, searched_of, SearchesInto}
 use Rattle.search.specs.ProgramSearch.{Walks}
 use Rattle.search.proofs.MadeLaws.{fitting, count_is, made}
 
@@ -38,26 +38,27 @@ none_there (x ∷ xs) h = absurd (let z = eqb-true (suc (length xs)) 0 h in omeg
 
 -- ---- the search call
 
-module _ (old : List ℕ) (k : Clock) (allowance room : ℕ) where
+module _ (old : List ℕ) (k : Clock) (allowance : ℕ) (lent : List EntryRecord) where
   abbrev s : Plain
   s = decode_image old
 
   -- a refused search writes nothing
-  refusing : (e : SearchError) → ((lent : List EntryRecord) → length lent ≡ room → search_refused (error_number e) lent s ≡ search_call k allowance lent s) → SearchesIn old k allowance room (Err e) old
-  refusing e h = record { gives = h; fits = tt; enough = tt; exact = λ x. x; kept = refl }
+  refusing : (e : SearchError) → search_refused (error_number e) lent s ≡ search_call k allowance lent s → SearchesInto old k allowance lent (Err e) lent old
+  unfolding searched_of
+  refusing e h = record { gives = h; exact = λ x. x; kept = refl }
 
   module _ {g : Bool} (eg : g ≡ good_clock_value k) where
-    pub refused_clock_lem : not g ≡ true → SearchesIn old k allowance room (Err ClockOutOfRange) old
+    pub refused_clock_lem : not g ≡ true → SearchesInto old k allowance lent (Err ClockOutOfRange) lent old
     unfolding search_call
-    refused_clock_lem h = refusing ClockOutOfRange (λ lent l. rw (sym eg, not-true g h))
+    refused_clock_lem h = refusing ClockOutOfRange (rw (sym eg, not-true g h))
 
     module _ (good : not g ≡ false) {e : Bool} (ee : e ≡ is_empty s) where
       clock_good : good_clock_value k ≡ true
       clock_good = sym eg ∙ not-false g good
 
-      pub refused_waiting : not e ≡ true → SearchesIn old k allowance room (Err NotEmpty) old
+      pub refused_waiting : not e ≡ true → SearchesInto old k allowance lent (Err NotEmpty) lent old
       unfolding search_call
-      refused_waiting h = refusing NotEmpty (λ lent l. rw (clock_good, sym ee, not-true e h))
+      refused_waiting h = refusing NotEmpty (rw (clock_good, sym ee, not-true e h))
 
       module _ (rest : not e ≡ false) {n : ℕ} (en : n ≡ length s.meters) where
         empty : is_empty s ≡ true
@@ -69,23 +70,25 @@ module _ (old : List ℕ) (k : Clock) (allowance room : ℕ) where
         no_queue : s.queue ≡ []
         no_queue = none_there s.queue (and_r (eqb (length s.input) 0) (eqb (length s.queue) 0) empty)
 
-        pub refused_few : room < n → SearchesIn old k allowance room (Err TooFewLent) old
+        pub refused_few : length lent < n → SearchesInto old k allowance lent (Err TooFewLent) lent old
         unfolding search_call
         refused_few h =
-            refusing TooFewLent (λ lent l. rw (clock_good, sym ee, not-false e rest, lt-ltb (length lent) (length s.meters) (omega arith)))
+            refusing TooFewLent (rw (clock_good, sym ee, not-false e rest, lt-ltb (length lent) (length s.meters) (omega arith)))
 
-        pub made_search : (r : Entries) (new : List ℕ) → n ≤ room → Walks old allowance r new → SearchesIn old k allowance room (Ok r) new
+        -- a walk's entries are no more than the records lent
+        pub lent_enough : (w : Walking) (new : List ℕ) → n ≤ length lent → Walks old allowance w new → length w.run.entries ≤ length lent
+        lent_enough w new h x =
+            omega (arith, count_is old k allowance w new clock_good no_input no_queue x, fitting old k allowance w new clock_good no_input no_queue x)
+
+        pub made_search : (w : Walking) (new : List ℕ) (m : ℕ) (after : List EntryRecord) → n ≤ length lent → Walks old allowance w new → m ≡ length w.run.entries
+            → after ≡ map record_in w.run.entries ++ drop (length w.run.entries) lent
+            → SearchesInto old k allowance lent (Ok (record { count = m; probes = w.run.probes; spent = w.run.spent })) after new
         unfolding search_call
-        made_search r new h x =
-            let c = count_is old k allowance r new clock_good no_input no_queue x in
-            let f = fitting old k allowance r new clock_good no_input no_queue x in
-            let m = meters_few old in
+        made_search w new m after h x c e =
             record {
-              gives = λ lent l.
-                  made old k allowance r new clock_good no_input no_queue x lent
-                  ∙ sym (rw (clock_good, sym ee, not-false e rest, le-ltb (length lent) (length s.meters) (omega arith)) refl);
-              fits = omega arith;
-              enough = omega arith;
+              gives =
+                  made old k allowance w new clock_good no_input no_queue x lent after m c e
+                  ∙ sym (rw (clock_good, sym ee, not-false _ rest, le-ltb (length lent) (length s.meters) (omega arith)) refl);
               exact = λ z. x.image.exact z ∙ ap encode_image (sym x.image.means);
               kept = tt;
             }

@@ -1,9 +1,8 @@
 // From the meters of an image to their keys and marks and back, and from an entry's number to its record.
-ghost use Rattle.std.specs.Prelude.{◌≡◌, map, ◌+◌, ◌≤◌, min, take};
+ghost use Rattle.std.specs.Prelude.{◌≡◌, ◌++◌, map, ◌+◌, ◌≤◌, length, drop};
 ghost use Rattle.laws.specs.Words.{Every};
 ghost use Rattle.meter_identity.specs.Identity.{digits_of_value};
 ghost use Rattle.meter.specs.View.{plain_meter};
-ghost use Rattle.list_open.specs.Opening.{capacity};
 ghost use Rattle.segment_image.specs.Image.{decode_image};
 ghost use Rattle.segment_places.specs.ProgramBecomes.{Becomes};
 ghost use Rattle.search_packed.specs.ProgramBits.{STEADY, TOO_MANY};
@@ -17,16 +16,13 @@ use segment_image::IMAGE;
 use segment_places::head;
 use segment_places::meters::{meter_at, put_meter};
 
-// The bits of a mark that say what kind of meter it is.
+// The bits of a mark that say what kind of meter it is: a line for each value.
 fn fault_bits(fault: Fault) -> u32
     ensures { (result ≡ fault_bits_value fault) × (result ≤ STEADY + TOO_MANY) }
 {
     match fault {
-        Fault::None => STEADY,
-        Fault::Checksum => STEADY + FAILS,
-        Fault::Truncated => STEADY + FAILS,
-        Fault::Busy => STEADY + FAILS,
-        Fault::WrongAddress => STEADY,
+        Fault::None | Fault::WrongAddress => STEADY,
+        Fault::Checksum | Fault::Truncated | Fault::Busy => STEADY + FAILS,
         Fault::Flaky => FLAKY,
         Fault::TooMany => STEADY + TOO_MANY,
     }
@@ -53,7 +49,7 @@ pub(crate) struct Packed {
     pub(crate) marks: [u32; METERS],
 }
 
-// The meters of an image, packed.
+// The meters of an image, packed: by place, into both arrays.
 pub(crate) fn packed_of(image: &[u8; IMAGE]) -> Packed
     ensures keys { result.keys ≡ packed key_of_value (decode_image image.now).meters }
     ensures marks { result.marks ≡ packed (mark_of_value (decode_image image.now).baud) (decode_image image.now).meters }
@@ -110,7 +106,7 @@ fn unmark(m: Meter, bus: u32, mark: u32) -> Meter
     Meter { state, ..m }
 }
 
-// Each meter as its mark has it, over the bytes that it had.
+// Each meter as its mark has it, over the bytes that it had: by place, where it is read and put back.
 pub(crate) fn unmark_all(image: &mut [u8; IMAGE], marks: [u32; METERS])
     ensures { Becomes image.old (unmarked marks (decode_image image.old)) image.new }
 {
@@ -138,7 +134,8 @@ fn digits_of(id: u32) -> [u8; 8]
     ]
 }
 
-// In the walk an entry is no enum: the sweep of a reading carries it as a number from mark to mark; it is read here.
+// In the walk an entry is no enum: the sweep of a reading carries it as a number from mark to mark; it is read here, and not
+// by a `From`, which would be public and show the packing.
 fn kind_of(front: u32) -> Kind
     ensures { result ≡ kind_in front }
 {
@@ -166,21 +163,13 @@ fn record_of(e: u64) -> EntryRecord
     }
 }
 
-pub(crate) fn blank_records() -> [EntryRecord; METERS] {
-    let blank = EntryRecord {
-        kind: Kind::Mute,
-        digits: [0; 8],
-        count: 0,
-    };
-    [blank; METERS]
-}
-
-pub(crate) fn records_of(entries: [u64; METERS], found: usize) -> [EntryRecord; METERS]
-    ensures { take (min found capacity) result ≡ map record_in (take (min found capacity) entries) }
+// The records of these entries, in front of the records lent; further ones stay.
+// By index: after `lent.iter_mut().zip(found)` a proof knows the length of the records, and not the records.
+pub(crate) fn write_records(found: &[u64], lent: &mut [EntryRecord])
+    requires { length found.now ≤ length lent.old }
+    ensures { lent.new ≡ map record_in found.now ++ drop (length found.now) lent.old }
 {
-    let mut records = blank_records();
-    for i in 0..found.min(METERS) {
-        records[i] = record_of(entries[i]);
+    for i in 0..found.len() {
+        lent[i] = record_of(found[i]);
     }
-    records
 }

@@ -4,7 +4,6 @@
 -- 0; in front is what is above 2^32.
 use Rattle.std.specs.Prelude.{◌≡◌, ℕ, zero, suc, ◌+◌, ◌*◌, Bool, true, false, List, [], ◌∷◌, ◌++◌, length, take, Option, None, Some, ◌==◌, nat_le, nat_lt, if◌then◌else◌}
 use Rattle.list_open.specs.Opening.{capacity}
-use Rattle.search_packed.specs.declared.Found.{Found}
 use Rattle.search_packed.specs.ProgramMarks.{masked, acked, read_key_value, read_by, swept_by, fold_by}
 
 -- where a walk stands
@@ -98,13 +97,6 @@ packed_walk ks allowance (suc u) low t =
 abbrev pub packed_whole : List ℕ → List ℕ → ℕ → PackedRun
 packed_whole ks ss allowance = packed_walk ks allowance 8 0 (record { entries = []; probes = 0; spent = false; marks = ss })
 
--- what the program gives of it, as a walk that ended
-unfoldable pub found_of : Found → PackedRun
-found_of r = record { entries = take r.found r.entries; probes = r.probes; spent = r.spent; marks = r.marks }
-
--- the program's walk from the mask with no digit; it found as many as that walk, and its arrays have all their places
-pub record Goes (ks ss : List ℕ) (allowance : ℕ) (r : Found) : Type 0 where
-  pub run : found_of r ≡ packed_whole ks ss allowance
-  pub found : r.found ≡ length (packed_whole ks ss allowance).entries
-  pub entries : length r.entries ≡ capacity
-  pub marks : length r.marks ≡ capacity
+-- the program's walk from the mask with no digit, at its end
+abbrev pub walk_all_value : List ℕ → List ℕ → ℕ → Walking
+walk_all_value ks ss allowance = record { keys = ks; allowance = allowance; run = packed_whole ks ss allowance }

@@ -1,5 +1,6 @@
-// The places of a mark: those that follow the first, selected, which is the lowest bit (mark % 2).
-// Each is one bit, but for the readouts and the access number, which have a byte. A meter at another baud has mark 0.
+// A mark is one number, and no struct of flags, so that a sweep over all marks is vectorised. Its places: those that
+// follow the first, selected, which is the lowest bit (mark % 2). Each is one bit, but for the readouts and the access
+// number, which have a byte. A meter at another baud has mark 0.
 pub const FRESH: u32 = 2; // reset by a select
 
 pub const HEARS: u32 = 4; // hears the next telegram

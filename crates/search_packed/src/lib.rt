@@ -1,28 +1,19 @@
 // The walk over packed meters: each is two numbers, its key and its mark (marks.rt).
 #![tactic(auto)]
 
-ghost use Rattle.search_packed.specs.ProgramPacked.{Goes};
+ghost use Rattle.std.specs.Prelude.{◌≡◌};
+ghost use Rattle.search_packed.specs.ProgramPacked.{walk_all_value};
 
 use list_open::METERS;
-use walk::Walk;
+pub use walk::Walk;
 
 pub mod bits; // bits.rt: the places of a mark
-mod marks;
-mod walk;
+mod marks; // marks.rt: a key and a mark, and the sweeps over all of them
+mod walk; // walk.rt: probe and row
 
-// What a walk gives: the first `found` entries are those found; the marks are those that it leaves.
-#[derive(Clone, Copy)]
-pub struct Found {
-    pub entries: [u64; METERS],
-    pub found: usize,
-    pub probes: u32,
-    pub spent: bool,
-    pub marks: [u32; METERS],
-}
-
-// The walk from the mask with no digit: all eight unknown, every id from 0 on.
-pub fn walk_all(keys: [u32; METERS], marks: [u32; METERS], allowance: u32) -> Found
-    ensures { Goes keys marks allowance result }
+// The walk from the mask with no digit: all eight are unknown, so that it is the mask of all ids.
+pub fn walk_all(keys: [u32; METERS], marks: [u32; METERS], allowance: u32) -> Walk
+    ensures { result ≡ walk_all_value keys marks allowance }
 {
     let mut walk = Walk {
         keys,
@@ -34,11 +25,5 @@ pub fn walk_all(keys: [u32; METERS], marks: [u32; METERS], allowance: u32) -> Fo
         spent: false,
     };
     walk.probe(8, 0, 0xFFFFFFFF);
-    Found {
-        entries: walk.entries,
-        found: walk.found,
-        probes: walk.probes,
-        spent: walk.spent,
-        marks: walk.marks,
-    }
+    walk
 }

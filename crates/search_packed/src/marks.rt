@@ -8,7 +8,8 @@ ghost use Rattle.search_packed.specs.ProgramMarks.{yes_of, hears_of_value, marke
 use crate::bits::{ACCESS, CLEAR, FAILS, FLAKY, FRESH, HEARS, READOUTS, STEADY, TOO_MANY};
 use list_open::METERS;
 
-// 1 where the meter answers a telegram; put is 1 where the telegram is put to it.
+// 1 where the meter answers a telegram; `offered` is 1 where the telegram is put to it. They are numbers and no bools, so
+// that a sweep is vectorised.
 fn yes_of(mark: u32, offered: u32) -> u32
     requires { offered ≤ 1 }
     ensures { (result ≡ yes_of mark offered) × (result ≤ 1) }
@@ -44,7 +45,8 @@ fn is_between(low: u32, high: u32, x: u32) -> bool
     x.wrapping_sub(low) <= high - low
 }
 
-// The mask of the ids from low to high is sent: how many acknowledge it.
+// The mask of the ids from low to high is sent: how many acknowledge it. Low and high, keys and marks are parameters of their
+// own, as the definitions of a sweep have them.
 // This is 01's probe of the segment that keys and marks stand for (search, proofs/PackedProbe.antt, `probe-packed`).
 pub(crate) fn send_mask(keys: &[u32; METERS], marks: &mut [u32; METERS], low: u32, high: u32) -> u32
     requires { low ≤ high }
@@ -86,6 +88,7 @@ fn read_mark(mark: u32) -> u32
     if yes == 0 {
         return mark / CLEAR * CLEAR + hears * HEARS + mark % HEARS;
     }
+    // By a cast: the proof by `u32::from` didn't close.
     let access = ((mark / ACCESS % 256) as u8).wrapping_add(1);
     mark / STEADY % 16 * STEADY
         + CLEAR
@@ -102,7 +105,8 @@ fn is_readable(mark: u32) -> bool
     mark / FAILS % 2 == 0 && (mark / TOO_MANY % 2 == 0 || mark / READOUTS % 256 < 2)
 }
 
-// The id that a reading brings, behind a 1; a meter whose reply is not good leaves what was there.
+// The id that a reading brings, behind a 1; a meter whose reply is not good leaves what was there. It is one number and no
+// `Option`, as an entry is in the walk.
 fn read_key(id: u64, key: u32, mark: u32) -> u64
     ensures { result ≡ read_key_value id key mark }
 {

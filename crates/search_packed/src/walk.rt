@@ -1,4 +1,4 @@
-// The walk over packed meters: probe and row call each other, and the digits still unknown fall.
+// The walk over packed meters: probe and row call each other, each row with one unknown digit fewer.
 // A mask with so many digits unknown is the ids from low to low + span, span = 16^unknown - 1.
 // An entry is one number: the id with the E5 counted in front of it (one: 1), or a mute's mask, F for unknown, with 0.
 ghost use Rattle.std.specs.Prelude.{◌≡◌, ℕ, ◌+◌, ◌*◌, ◌<◌, ◌≤◌};
@@ -10,15 +10,17 @@ use list_open::METERS;
 use std::marker::Model;
 
 // A walk: the meters' keys and their marks, how many probes it may send, the entries it has found, and where it stands.
+// The first `found` entries are those found: the memory is fixed, at most an entry a meter. Keys and marks are two arrays,
+// so that a sweep is vectorised.
 #[derive(Drop)]
-pub(crate) struct Walk {
-    pub(crate) keys: [u32; METERS],
-    pub(crate) marks: [u32; METERS],
-    pub(crate) allowance: u32,
-    pub(crate) entries: [u64; METERS],
-    pub(crate) found: usize,
-    pub(crate) probes: u32,
-    pub(crate) spent: bool,
+pub struct Walk {
+    pub keys: [u32; METERS],
+    pub marks: [u32; METERS],
+    pub allowance: u32,
+    pub entries: [u64; METERS],
+    pub found: usize,
+    pub probes: u32,
+    pub spent: bool,
 }
 
 impl Model for Walk {
@@ -76,7 +78,7 @@ impl Walk {
         }
     }
 
-    // Ten probes with one digit more, 0 to 9; below digits stay unknown in each.
+    // Ten probes with one digit more, 0 to 9; below digits stay unknown in each. `first` is added to, and not multiplied.
     #[cycle(probe_row)]
     fn row(&mut self, below: usize, low: u32, span: u32)
         requires { (span ≡ span_of below) × (low + 16 * span + 15 < 0x100000000) }

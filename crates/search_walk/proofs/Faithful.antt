@@ -1,6 +1,6 @@
 -- The walk over a segment with a state gives what the model gives, if probes and readings are as `Faithful` says.
 use mathlib.Core.Path.{◌≡◌, refl, sym, ap, ap₂, ◌∙◌, fun_ext}
-use mathlib.Core.Bool.{Bool, true, false, ◌||◌, not, false≢true}
+use mathlib.Core.Bool.{Bool, true, false, ◌||◌, not, false≢true, or-true}
 use mathlib.Core.List.{List, [], ◌∷◌, ◌++◌, append-nil}
 use Prim.Native.Nat.{ℕ, zero, suc, ◌+◌, ◌≤◌, ◌<◌}
 use native.Mathlib.Omega.{arith}
@@ -14,7 +14,6 @@ use Rattle.search_walk.specs.Entries.{lone_entry, having}
 use Rattle.search_walk.proofs.Model.{Digits, Prefix, ten_digits, prefix_longer, Run, on, join, and_then, model_row, heard, paid, model_walk}
 use Rattle.search_walk.proofs.Sums.{total}
 use Rattle.search_walk.proofs.Bound.{range, ten_range, split}
-use Rattle.search_walk.proofs.Rising.{or-true}
 
 -- the model's walk, with the segment: entries, what is left of the allowance, spent or not, the segment
 pub record RunS (S : Type 0) : Type 0 where

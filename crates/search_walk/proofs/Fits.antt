@@ -3,20 +3,21 @@
 -- and the walk leaves the segment at rest with the same ids.
 use mathlib.Core.Path.{◌≡◌, refl, sym, ap, ◌∙◌, subst}
 use mathlib.Core.Bool.{true, ◌&&◌}
-use mathlib.Core.List.{List, [], map}
+use mathlib.Core.List.{List, [], map, map-map}
 use Prim.Native.Nat.{ℕ, ◌≤◌}
 use native.Mathlib.Omega.{arith}
 use lib.Dec.{eqb}
 use lib.Ieee.{Float}
 use lib.ListN.{length, length-map}
+use Rattle.std.proofs.lemmas.Bool.{and_from}
 use Rattle.laws.specs.Words.{keep, Every}
-use Rattle.laws.proofs.Lists.{every_map, every_all, every_image, keep_same, keep-map, keep-keep, keep_fewer, length-keep, map-map, map_same, and_l, and_r, and_both}
+use Rattle.laws.proofs.Lists.{every_map, every_all, every_image, keep_same, keep-map, keep-keep, keep_fewer, length-keep, map_same, and_l, and_r}
 use Rattle.frame.specs.Frame.{encode}
 use Rattle.meter.specs.PlainMeter.{PlainMeter}
 use Rattle.time_clock.specs.declared.Clock.{Clock}
 use Rattle.meter.specs.declared.Fault.TheVariants.{None}
 use Rattle.meter.specs.Meter.{hears}
-use Rattle.meter_step.proofs.HearLaws.{Alike, probed-alike, read_alike}
+use Rattle.meter_step.proofs.HearLaws.{Alike}
 use Rattle.list_open.specs.Opening.{capacity}
 use Rattle.segment.specs.Plain.{Plain}
 use Rattle.segment_send.specs.Send.{send}
@@ -26,11 +27,10 @@ use Rattle.search_walk.specs.Walk.{Entry, mask, reading, probe, read, Walked, wh
 use Rattle.search_walk.specs.Entries.{having, begins, at_bus}
 use Rattle.search_walk.proofs.Model.{Prefix, no_digit}
 use Rattle.search_walk.proofs.Seen.{known, WellFormed}
-use Rattle.search_walk.proofs.MaskLaws.{mask_data}
 use Rattle.search_walk.proofs.Faithful.{walk-fits}
 use Rattle.search_walk.proofs.Upward.{walk_down, whole-down}
-use Rattle.search_walk.proofs.ProbeLaws.{secs, called, probed_m, read_m, probe-rest, read-rest, mask_sent, reading_sent}
-use Rattle.search_walk.proofs.SteadyMeters.{has_at}
+use Rattle.search_walk.proofs.ProbeLaws.{called, probed_m, read_m, probe-rest, read-rest, mask_sent, reading_sent}
+use Rattle.search_walk.proofs.SteadyMeters.{has_at, probed-is, reads_is}
 use Rattle.search_walk.proofs.Instance.{rest-is}
 
 -- at most 64 meters, each with eight digits of any kind: every value of the program's segment
@@ -93,14 +93,6 @@ module _ (k : Clock) (gc : good_clock_value k ≡ true) (ms : List PlainMeter) w
     ids_same b f h ns ∙ e,
   )
 
-  probed-is : (b : ℕ) (o : Float) (p : List ℕ) (m : PlainMeter) → Alike m (probed_m k b o p m)
-  unfolding mask
-  probed-is b o p m = probed-alike b (secs k b o) k m (mask_data p)
-
-  reads_is : (b : ℕ) (o : Float) (m : PlainMeter) → Alike m (read_m k b o m)
-  unfolding reading
-  reads_is b o m = read_alike b (secs k b o) k m
-
   back : (s : Plain) → Inv s → (P : Plain → Type 0) → P (at_rest_value s.baud s.origin s.meters) → P s
   back s i P h = subst P (sym (rest-is s i.0.input i.0.queue)) h
 
@@ -108,13 +100,13 @@ module _ (k : Clock) (gc : good_clock_value k ≡ true) (ms : List PlainMeter) w
   probe_inv p w s i =
       back s i (λ x. Inv (probe k p x).1)
       (subst Inv (sym (ap (λ (r : ℕ × Plain). r.1) (probe-rest k s.baud s.origin gc p w s.meters i.0.sized.eight i.0.sized.few)))
-      (changed s.baud s.origin s.meters (probed_m k s.baud s.origin p) (probed-is s.baud s.origin p) (record { few = i.0.sized.few; eight = i.0.sized.eight }) i.1))
+      (changed s.baud s.origin s.meters (probed_m k s.baud s.origin p) (probed-is k gc s.baud s.origin p w) (record { few = i.0.sized.few; eight = i.0.sized.eight }) i.1))
 
   pub read_inv : (p : List ℕ) → Prefix p → (s : Plain) → Inv s → Inv (read k p s).1
   read_inv p w s i =
       back s i (λ x. Inv (read k p x).1)
       (subst Inv (sym (ap (λ (r : Entry × Plain). r.1) (read-rest k s.baud s.origin gc p s.meters i.0.sized.few)))
-      (changed s.baud s.origin s.meters (read_m k s.baud s.origin) (reads_is s.baud s.origin) (record { few = i.0.sized.few; eight = i.0.sized.eight }) i.1))
+      (changed s.baud s.origin s.meters (read_m k s.baud s.origin) (reads_is k gc s.baud s.origin p w) (record { few = i.0.sized.few; eight = i.0.sized.eight }) i.1))
 
   probe_le : (p : List ℕ) → Prefix p → (s : Plain) → Inv s → (probe k p s).0 ≤ length (having ms p)
   probe_le p w s i =
@@ -129,7 +121,7 @@ module _ (k : Clock) (gc : good_clock_value k ≡ true) (ms : List PlainMeter) w
     where
       weaker : (b : ℕ) (m : PlainMeter) → called k b s.origin p m ≡ true → has_at b p m ≡ true
       weaker b m h =
-          and_both (at_bus b m) (begins p m.digits) (and_l (at_bus b m) (begins p m.digits && hears m) h)
+          and_from (at_bus b m) (begins p m.digits) (and_l (at_bus b m) (begins p m.digits && hears m) h)
           (and_l (begins p m.digits) (hears m) (and_r (at_bus b m) (begins p m.digits && hears m) h))
 
   fits_all : (a : ℕ) (s : Plain) → Inv s → (length (walk_down k a s).entries ≤ length (having ms [])) × Inv (walk_down k a s).state

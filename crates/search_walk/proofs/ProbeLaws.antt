@@ -2,14 +2,14 @@
 use Rattle.std.specs.Prelude.{if◌then◌else◌}
 use mathlib.Core.Path.{◌≡◌, refl, ap, ◌∙◌}
 use mathlib.Core.Bool.{Bool, true, false, ◌&&◌}
-use mathlib.Core.List.{List, [], map}
+use mathlib.Core.List.{List, [], map, map-map}
 use Prim.Native.Nat.{ℕ, ◌≤◌}
 use native.Mathlib.Omega.{arith}
 use lib.Dec.{eqb}
 use lib.Ieee.{Float}
 use lib.ListN.{length, length-map}
 use Rattle.laws.specs.Words.{keep, Every}
-use Rattle.laws.proofs.Lists.{every_map, every_all, every_image, length-keep, map-map}
+use Rattle.laws.proofs.Lists.{every_map, every_all, every_image, length-keep}
 use Rattle.frame.specs.Frame.{Telegram, encode}
 use Rattle.time_seconds.specs.Seconds.{elapsed_of_value}
 use Rattle.meter.specs.PlainMeter.{PlainMeter}
@@ -43,6 +43,10 @@ ask-rest k b o ms t h =
     ap (λ (r : Done). (r.segment.queue, with_queue [] r.segment)) h
     ∙ ap (λ ns. (joined (replies (sent_to k b o ms t)), at_rest_value b o ns)) (map-map (λ h. h.meter) (hear b t (elapsed_of_value k.now o) k) ms)
 
+pub mask_one : (p : List ℕ) → to_broadcast_value (mask p) ≡ false
+unfolding mask
+mask_one p = refl
+
 module _ (k : Clock) (b : ℕ) (o : Float) where
   abbrev pub secs : Float
   secs = elapsed_of_value k.now o
@@ -73,10 +77,6 @@ module _ (k : Clock) (b : ℕ) (o : Float) where
   mask-joined : (p : List ℕ) → Prefix p → (ms : List PlainMeter) → Every (λ m. length m.digits ≡ 8) ms
       → joined (replies (sent_to k b o ms (mask p))) ≡ map (λ m. 0xE5) (keep (called p) ms)
   mask-joined p w ms ids = ap joined (mask-replies p w ms ids) ∙ joined_acks (keep (called p) ms)
-
-  mask_one : (p : List ℕ) → to_broadcast_value (mask p) ≡ false
-  unfolding mask
-  mask_one p = refl
 
   module _ (gc : good_clock_value k ≡ true) where
     pub mask_sent : (p : List ℕ) → Prefix p → (ms : List PlainMeter) → Every (λ m. length m.digits ≡ 8) ms → length ms ≤ capacity

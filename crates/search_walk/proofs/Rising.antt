@@ -1,6 +1,6 @@
 -- The entries are in rising order.
 use mathlib.Core.Path.{◌≡◌, refl, sym, ◌∙◌}
-use mathlib.Core.Bool.{Bool, true, false, cond, ◌||◌, false≢true}
+use mathlib.Core.Bool.{Bool, true, false, cond, false≢true, or-true}
 use mathlib.Core.List.{List, [], ◌∷◌, ◌++◌, Memᴰ}
 use Prim.Native.Nat.{ℕ, zero, suc, ◌≤◌, ◌<◌}
 use native.Mathlib.Omega.{arith}
@@ -35,10 +35,6 @@ begins_shorter [] q x h = refl
 begins_shorter (d ∷ p) q [] h = h
 begins_shorter (d ∷ p) q (y ∷ x) h =
     rw (and_l (eqb d y) (begins (p ++ q) x) h) (begins_shorter p q x (and_r (eqb d y) (begins (p ++ q) x) h))
-
-pub or-true : (b : Bool) → b || true ≡ true
-or-true true = refl
-or-true false = refl
 
 first-at : (p : List ℕ) (d e : ℕ) (x y : List ℕ) → d < e → begins (p ++ d ∷ []) x ≡ true → begins (p ++ e ∷ []) y ≡ true → comes_before x y ≡ true
 first-at [] d e [] y l h k = absurd (false≢true h)

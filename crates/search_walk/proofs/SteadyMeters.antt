@@ -3,7 +3,7 @@
 use Rattle.std.specs.Prelude.{if◌then◌else◌}
 use mathlib.Core.Path.{◌≡◌, refl, sym, ap, ap₂, ◌∙◌, subst}
 use mathlib.Core.Bool.{Bool, true, false, ◌&&◌, not, false≢true, and-true}
-use mathlib.Core.List.{List, [], ◌∷◌, map, nil≢cons, cons≢nil, head-eq_of_cons-eq, tail-eq_of_cons-eq}
+use mathlib.Core.List.{List, [], ◌∷◌, map, map-map, nil≢cons, cons≢nil, head-eq_of_cons-eq, tail-eq_of_cons-eq}
 use Prim.Native.Nat.{ℕ, ◌≤◌}
 use native.Mathlib.Omega.{arith}
 use lib.Dec.{eqb}
@@ -11,7 +11,7 @@ use lib.Ieee.{Float}
 use lib.ListN.{length, length-map}
 use borrow.Author.Tests.{eqb-true, eq-eqb}
 use Rattle.laws.specs.Words.{keep, Every}
-use Rattle.laws.proofs.Lists.{every_map, every_both, every_all, every_keep, every_image, keep_passes, keep_same, keep-map, keep-keep, map-map, map_same, and_l, and_r}
+use Rattle.laws.proofs.Lists.{every_map, every_both, every_all, every_keep, every_image, keep_passes, keep_same, keep-map, keep-keep, map_same, and_l, and_r}
 use Rattle.meter.specs.PlainMeter.{PlainMeter}
 use Rattle.time_clock.specs.declared.Clock.{Clock}
 use Rattle.meter.specs.Meter.{flaky, hears, offered, with_hears_next}
@@ -64,7 +64,7 @@ abbrev pub Fine : ℕ → PlainMeter → Type 0
 Fine b m = IdDigits m.digits × (at_bus b m ≡ true → flaky m.fault ≡ false)
 
 module _ (k : Clock) (gc : good_clock_value k ≡ true) (b : ℕ) (o : Float) (p : List ℕ) (w : Prefix p) where
-  probed-is : (m : PlainMeter) → Alike m (probed_m k b o p m)
+  pub probed-is : (m : PlainMeter) → Alike m (probed_m k b o p m)
   unfolding mask
   probed-is m = probed-alike b (secs k b o) k m (mask_data p)
 
@@ -79,7 +79,7 @@ module _ (k : Clock) (gc : good_clock_value k ≡ true) (b : ℕ) (o : Float) (p
   seen_same : (m n : PlainMeter) → Alike m n → n.readouts ≡ m.readouts → seen_of n ≡ seen_of m
   seen_same m n a r = λ i. known (a.digits i) (a.fault i) (r i)
 
-  reads_is : (m : PlainMeter) → Alike m (read_m k b o m)
+  pub reads_is : (m : PlainMeter) → Alike m (read_m k b o m)
   unfolding reading
   reads_is m = read_alike b (secs k b o) k m
 

@@ -6,6 +6,7 @@ ghost use Rattle.meter.specs.View.{plain_meter};
 ghost use Rattle.segment.specs.Plain.{blank};
 ghost use Rattle.segment.specs.View.{plain_of};
 
+use list_open::Meters;
 use meter::Meter;
 
 // As many meters as a segment can have.
@@ -17,7 +18,7 @@ pub const INPUT: usize = 260;
 // As many bytes as can be queued.
 pub const QUEUE: usize = 4096;
 
-// Arrays with a length beside: the image, which C lends, holds the same bytes in place, and a definition reads them as lists.
+// Arrays with a length beside, since nothing here may lie on the heap. A count past the end means the whole array.
 #[derive(Clone, Copy)]
 pub struct Segment {
     pub meters: [Meter; METERS],
@@ -31,10 +32,11 @@ pub struct Segment {
 }
 
 impl Segment {
-    // The first `count` meters; nothing waits, and nothing is queued.
-    pub fn opened(meters: [Meter; METERS], count: usize, baud: u32, origin: f64) -> Segment
-        ensures { plain_of result ≡ record { baud = baud; origin = origin; input = []; queue = []; meters = map plain_meter (take count meters) } }
+    // These meters; nothing waits, and nothing is queued.
+    pub fn opened(gathered: Meters, baud: u32, origin: f64) -> Segment
+        ensures { plain_of result ≡ record { baud = baud; origin = origin; input = []; queue = []; meters = map plain_meter (take gathered.count gathered.meters) } }
     {
+        let Meters { meters, count } = gathered;
         Segment {
             meters,
             count,
@@ -51,8 +53,6 @@ impl Segment {
     pub fn new() -> Segment
         ensures { plain_of result ≡ blank }
     {
-        let none = list_open::opening::begin();
-        let meters = none.meters;
-        Segment::opened(meters, 0, 2400, 0.0)
+        Segment::opened(list_open::opening::begin(), 2400, 0.0)
     }
 }

@@ -1,4 +1,5 @@
-// Opening, receive, clear and baud change, on a segment in its image.
+// Opening, receive, clear and baud change, on a segment in its image. The image is a parameter of its own, here and in all
+// crates: C lends its bytes, and clauses speak of them.
 #![tactic(auto)]
 
 ghost use Rattle.std.specs.Prelude.{◌≡◌};
@@ -9,6 +10,7 @@ ghost use Rattle.segment_image.specs.Image.{decode_image};
 ghost use Rattle.segment_image.specs.Answers.{DoneImage, LeftImage, OpenedImage, ReceivedImage};
 ghost use Rattle.segment_calls.specs.View.{changing_number_value};
 
+use laws::answer::Numbered;
 use laws::refused;
 use list_check::refusal::Refusal;
 use segment::Segment;
@@ -18,7 +20,8 @@ use segment_places::{head, input, queue};
 // As many bytes as a receive hands out, at the most.
 const HANDED_OUT: usize = 32;
 
-// An accepted opening builds the segment anew; a refused one leaves the segment in use.
+// An accepted opening builds the segment anew; a refused one leaves the segment in use. Baud, practice flag and origin are
+// parameters of their own, as in the C interface.
 pub fn open(
     image: &mut [u8; IMAGE],
     list: &[u8],
@@ -28,9 +31,8 @@ pub fn open(
 ) -> Result<(), Refusal>
     ensures { OpenedImage list.now baud practice origin (refusal_number_value result) (refusal_index_value result) image.old image.new }
 {
-    let m = list_open::meters_of(list, baud, practice)?;
-    let opened = Segment::opened(m.meters, m.count, baud, origin);
-    segment_image::write_image(opened, image);
+    let meters = list_open::meters_of(list, baud, practice)?;
+    segment_image::write_image(Segment::opened(meters, baud, origin), image);
     Ok(())
 }
 
@@ -54,22 +56,11 @@ pub fn clear(image: &mut [u8; IMAGE])
 #[derive(Clone, Copy, PartialEq, Eq, Debug)]
 pub struct NoRate;
 
-impl NoRate {
-    // Its number of 01's places of refusal.
-    pub fn number(self) -> u32
-        ensures { result ≡ refused_baud }
-    {
-        refused::BAUD
-    }
-}
+impl Numbered for NoRate {
+    ghost number_of = { λ e. refused_baud };
 
-// The number of what a baud change answered, as C is told it.
-pub fn changing_number(answer: Result<(), NoRate>) -> u32
-    ensures { result ≡ changing_number_value answer }
-{
-    match answer {
-        Ok(()) => refused::NOT_REFUSED,
-        Err(refusal) => refusal.number(),
+    fn number(self) -> u32 {
+        refused::BAUD
     }
 }
 

@@ -45,20 +45,19 @@ module _ (lent : List ℕ) (s : Plain) where
   unfolding export_into_value
   export_high h = rw (← h)
 
-  module _ (h : false ≡ any_above250 s.meters) {n : ℕ} {bs : List ℕ} (w : RecordsWritten s n bs) (size : length (take n bs) ≡ n) where
-    count : length (list_of s) ≡ 3 + n
-    count = list_long s ∙ ap (λ (x : List ℕ). 3 + length x) (sym w.is) ∙ ap (λ (k : ℕ). 3 + k) size
+  module _ (h : false ≡ any_above250 s.meters) {bs : List ℕ} (w : RecordsWritten s bs) where
+    count : length (list_of s) ≡ 3 + length bs
+    count = list_long s ∙ ap (λ (x : List ℕ). 3 + length x) (sym w.is)
 
-    pub export_short : length lent < n + 3 → exported_by 12 0 lent ≡ export_into_value lent s
+    pub export_short : length lent < length bs + 3 → exported_by 12 0 lent ≡ export_into_value lent s
     unfolding export_into_value
     export_short q = rw (← h, lt-ltb (length lent) (length (list_of s)) (omega (arith, count)))
 
-    pub export_written : {new : List ℕ} → n + 3 ≤ length lent → new ≡ whole (take n bs) ++ drop (3 + length (take n bs)) lent → exported_by 0 (n + 3) new ≡ export_into_value lent s
+    pub export_written : {new : List ℕ} → length bs + 3 ≤ length lent → new ≡ whole bs ++ drop (3 + length bs) lent → exported_by 0 (length bs + 3) new ≡ export_into_value lent s
     unfolding export_into_value
     export_written {new} q e =
-        let c : n + 3 ≡ length (list_of s) = omega (arith, count) in
-        let t : whole (take n bs) ≡ list_of s = ap whole w.is ∙ list_whole s in
-        let d : 3 + length (take n bs) ≡ length (list_of s) = omega (arith, count, size) in
+        let c : length bs + 3 ≡ length (list_of s) = omega (arith, count) in
+        let t : whole bs ≡ list_of s = ap whole w.is ∙ list_whole s in
         rw (← h, le-ltb (length lent) (length (list_of s)) (omega (arith, count)))
-        (ap (λ (x : List ℕ). exported_by 0 (n + 3) x) (e ∙ ap (λ (x : List ℕ). x ++ drop (3 + length (take n bs)) lent) t ∙ ap (λ (k : ℕ). list_of s ++ drop k lent) d)
+        (ap (λ (x : List ℕ). exported_by 0 (length bs + 3) x) (e ∙ ap (λ (x : List ℕ). x ++ drop (3 + length bs) lent) t ∙ ap (λ (k : ℕ). list_of s ++ drop k lent) (sym count))
         ∙ ap (λ (k : ℕ). exported_by 0 k (list_of s ++ drop (length (list_of s)) lent)) c)

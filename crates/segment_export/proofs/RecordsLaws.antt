@@ -1,10 +1,10 @@
 -- The loop that writes the records, one behind the other.
-use mathlib.Core.Path.{◌≡◌, refl, sym, ap, ap₂, ◌∙◌}
-use mathlib.Core.List.{List, [], ◌∷◌, ◌++◌, map, append-nil, append_assoc}
+use mathlib.Core.Path.{◌≡◌, sym, ap, ap₂, ◌∙◌}
+use mathlib.Core.List.{List, [], ◌∷◌, ◌++◌, map, append-nil, append_assoc, map-append}
 use Prim.Native.Nat.{ℕ, ◌+◌, ◌*◌, ◌≤◌, ◌<◌, zero-le}
 use native.Mathlib.Numerals.{add-one}
 use native.Mathlib.Omega.{arith}
-use lib.ListN.{length, take, length-take}
+use lib.ListN.{length, take, length-append}
 use lib.Seq.{take-suc, take-length}
 use Rattle.meter.specs.PlainMeter.{PlainMeter}
 use Rattle.meter.specs.declared.Meter.{Meter}
@@ -13,8 +13,7 @@ use Rattle.list.specs.Layout.{Listed}
 use Rattle.list.specs.Written.{write_rest, write_records_value}
 use Rattle.list_open.specs.Opening.{most_meters}
 use Rattle.list_write.specs.Record.{record_for}
-use Rattle.list_write.specs.ProgramRecord.{counted, IsRest, record_bytes, Appends, room, none}
-use Rattle.list_write.specs.declared.Rest.{Rest}
+use Rattle.list_write.specs.ProgramRecord.{counted, Appends, room, none}
 use Rattle.segment.specs.Plain.{Plain}
 use Rattle.segment_image.specs.Image.{decode_image}
 use Rattle.segment_places.specs.ProgramBecomes.{meter_in}
@@ -26,25 +25,21 @@ unfolding write_records_value
 records_append [] r = append-nil (counted (write_rest r))
 records_append (q ∷ rs) r = ap (λ (x : List ℕ). counted (write_rest q) ++ x) (records_append rs r) ∙ sym (append_assoc (counted (write_rest q)) (write_records_value rs) (counted (write_rest r)))
 
-map-append : {A B : Type 0} (f : A → B) (xs ys : List A) → map f (xs ++ ys) ≡ map f xs ++ map f ys
-map-append f [] ys = refl
-map-append f (x ∷ xs) ys = ap (λ r. f x ∷ r) (map-append f xs ys)
-
 -- the records of the first i meters
 abbrev first_records : Plain → ℕ → List ℕ
 first_records s i = write_records_value (map (record_for s.baud) (take i s.meters))
 
--- the records of the first i meters of the image l are the first n bytes of bs
-pub record Writing (l : List ℕ) (i n : ℕ) (bs : List ℕ) : Type 0 where
+-- the records of the first i meters of the image l
+pub record Writing (l : List ℕ) (i : ℕ) (bs : List ℕ) : Type 0 where
   pub few : i ≤ length (decode_image l).meters
-  pub short : n ≤ 46 * i
-  pub is : take n bs ≡ first_records (decode_image l) i
+  pub short : length bs ≤ 46 * i
+  pub is : bs ≡ first_records (decode_image l) i
 
-pub writing_none : (l bs : List ℕ) → Writing l 0 0 bs
+pub writing_none : (l : List ℕ) {bs : List ℕ} → bs ≡ [] → Writing l 0 bs
 unfolding write_records_value
-writing_none l bs = record { few = zero-le; short = zero-le; is = refl }
+writing_none l e = record { few = zero-le; short = rw e (omega arith); is = e }
 
-module _ {l bs : List ℕ} {i n : ℕ} (s : Writing l i n bs) where
+module _ {l bs : List ℕ} {i : ℕ} (s : Writing l i bs) where
   -- the meter i comes next
   next_record : (m : Meter) → i < length (decode_image l).meters → plain_meter m ≡ meter_in i l → first_records (decode_image l) (i + 1) ≡ first_records (decode_image l) i ++ counted (write_rest (record_for (decode_image l).baud (plain_meter m)))
   next_record m h e =
@@ -54,22 +49,20 @@ module _ {l bs : List ℕ} {i n : ℕ} (s : Writing l i n bs) where
       ap (λ k. take k ms) (add-one i) ∙ take-suc ms i (meter_in i l) h ∙ ap (λ (x : PlainMeter). take i ms ++ x ∷ []) (meter-at l i (meter_in i l) h ∙ sym e) in
       ap (λ (x : List PlainMeter). write_records_value (map f x)) t ∙ ap write_records_value (map-append f (take i ms) (plain_meter m ∷ [])) ∙ records_append (map f (take i ms)) (f (plain_meter m))
 
-  writing_one : {r : ℕ} {new : List ℕ} (bus : ℕ) (m : Meter) (w : Rest) → i < length (decode_image l).meters → bus ≡ (decode_image l).baud → plain_meter m ≡ meter_in i l
-      → IsRest (record_for bus (plain_meter m)) w → length bs ≡ 46 * most_meters → Appends (record_bytes w) n bs r new → Writing l (i + 1) r new
-  writing_one bus m w h b e q size (none full same stays) = absurd (omega (arith, meters_few l, s.short, q.short, length-take w.len w.bytes))
-  writing_one bus m w h b e q size (room fits puts) =
-      let rest : take w.len w.bytes ≡ write_rest (record_for (decode_image l).baud (plain_meter m)) = q.is ∙ ap (λ (x : ℕ). write_rest (record_for x (plain_meter m))) b in
-      record {
-        few = omega arith;
-        short = omega (arith, s.short, puts.next, q.short, length-take w.len w.bytes);
-        is = puts.front ∙ ap₂ (λ (x : List ℕ) (y : List ℕ). x ++ counted y) s.is rest ∙ sym (next_record m h e);
-      }
+  pub writing_more : {new : List ℕ} (bus : ℕ) (m : Meter) → i < length (decode_image l).meters → bus ≡ (decode_image l).baud → plain_meter m ≡ meter_in i l → AppendsRecord (record_for bus (plain_meter m)) bs new
+      → Writing l (i + 1) new
+  writing_more {new} bus m h b e r = go r.appends
+    where
+      go : Appends (46 * most_meters) (counted (write_rest (record_for bus (plain_meter m)))) bs new → Writing l (i + 1) new
+      go (none full same) = absurd (omega (arith, meters_few l, s.short, r.short))
+      go (room fits put) =
+          record {
+            few = omega arith;
+            short = rw put (simp length-append (omega (arith, s.short, r.short)));
+            is = put ∙ ap₂ (λ (x : List ℕ) (y : ℕ). x ++ counted (write_rest (record_for y (plain_meter m)))) s.is b ∙ sym (next_record m h e);
+          }
 
-  pub writing_more : {r : ℕ} {new : List ℕ} (bus : ℕ) (m : Meter) → i < length (decode_image l).meters → bus ≡ (decode_image l).baud → plain_meter m ≡ meter_in i l
-      → length bs ≡ 46 * most_meters → AppendsRecord (record_for bus (plain_meter m)) n bs r new → Writing l (i + 1) r new
-  writing_more bus m h b e size a = writing_one bus m a.rest h b e a.is size a.appends
-
-  pub writing_all : length (decode_image l).meters ≤ i → RecordsWritten (decode_image l) n bs
+  pub writing_all : length (decode_image l).meters ≤ i → RecordsWritten (decode_image l) bs
   unfolding records_of_value
   writing_all h =
       let ms = (decode_image l).meters in

@@ -1,6 +1,6 @@
 -- What the program's export answers, in the terms of the definitions.
-use Rattle.std.specs.Prelude.{List, ℕ, Result, Ok, Err}
-use Rattle.laws.specs.Refusal.{not_refused, refused_room, refused_high_primary}
+use Rattle.std.specs.Prelude.{List, ℕ, Result}
+use Rattle.laws.specs.Refusal.{refused_room, refused_high_primary, number_of_answer, count_of_answer}
 use Rattle.segment_export.specs.Export.{Exported}
 use Rattle.segment_export.specs.declared.ExportError.{ExportError}
 use Rattle.segment_export.specs.declared.ExportError.TheVariants.{HighPrimary, NoRoom}
@@ -12,13 +12,11 @@ export_error_number NoRoom = refused_room
 
 -- its number. 0: accepted
 abbrev pub exporting_number_value : Result ℕ ExportError → ℕ
-exporting_number_value (Ok n) = not_refused
-exporting_number_value (Err refusal) = export_error_number refusal
+exporting_number_value answer = number_of_answer export_error_number answer
 
 -- how many bytes it wrote
 abbrev pub exporting_count_value : Result ℕ ExportError → ℕ
-exporting_count_value (Ok n) = n
-exporting_count_value (Err refusal) = 0
+exporting_count_value answer = count_of_answer answer
 
 -- a number, how many bytes, and the lent bytes afterwards
 abbrev pub exported_by : ℕ → ℕ → List ℕ → Exported

@@ -1,17 +1,17 @@
 // The segment as a list.
 #![tactic(auto)]
 
-ghost use Rattle.std.specs.Prelude.{◌≡◌, [], ◌∷◌, ◌++◌, ◌+◌, ◌*◌, ◌/◌, ◌%◌, ◌≤◌, ◌<◌, length, drop};
+ghost use Rattle.std.specs.Prelude.{◌≡◌, [], ◌∷◌, ◌++◌, ◌+◌, ◌/◌, ◌%◌, ◌≤◌, ◌<◌, length, drop};
 ghost use Rattle.meter.specs.View.{plain_meter};
-ghost use Rattle.list_open.specs.Opening.{most_meters};
 ghost use Rattle.list_write.specs.Record.{record_for};
 ghost use Rattle.segment_image.specs.Image.{decode_image};
 ghost use Rattle.segment_export.specs.Export.{any_above250, export_into_value};
 ghost use Rattle.segment_export.specs.ProgramExport.{AppendsRecord, RecordsWritten};
 ghost use Rattle.segment_export.specs.View.{export_error_number, exporting_number_value, exporting_count_value, exported_by};
 
+use laws::answer::Numbered;
 use laws::refused;
-use list_write::REST;
+use list_write::{REST, Written};
 use meter::Meter;
 use segment::METERS;
 use segment_image::IMAGE;
@@ -27,11 +27,10 @@ pub enum ExportError {
     NoRoom,
 }
 
-impl ExportError {
-    // Its number of the places of refusal.
-    pub fn number(self) -> u32
-        ensures { result ≡ export_error_number self }
-    {
+impl Numbered for ExportError {
+    ghost number_of = { export_error_number };
+
+    fn number(self) -> u32 {
         match self {
             ExportError::HighPrimary => refused::HIGH_PRIMARY,
             ExportError::NoRoom => refused::ROOM,
@@ -39,58 +38,31 @@ impl ExportError {
     }
 }
 
-// The number of what an export answered, as C is told it.
-pub fn exporting_number(answer: Result<u16, ExportError>) -> u32
-    ensures { result ≡ exporting_number_value answer }
-{
-    match answer {
-        Ok(_) => refused::NOT_REFUSED,
-        Err(refusal) => refusal.number(),
-    }
-}
-
-// How many bytes it wrote; a refused one none.
-pub fn exporting_count(answer: Result<u16, ExportError>) -> u16
-    ensures { result ≡ exporting_count_value answer }
-{
-    answer.unwrap_or(0)
-}
-
 // Whether a meter has a primary that an opening refuses.
 fn any_above_250(image: &[u8; IMAGE]) -> bool
     ensures { result ≡ any_above250 (decode_image image.now).meters }
 {
-    let count = head::count_of(image);
-    for i in 0..count {
-        let m = meters::meter_at(image, i);
-        if 250 < m.state.primary {
-            return true;
-        }
-    }
-    false
+    (0..head::count_of(image)).any(|i| 250 < meters::meter_at(image, i).state.primary)
 }
 
-// The record of a meter, whatever its baud, behind the first `at` bytes; the place behind it.
-fn append_meter(to: &mut [u8], at: usize, bus: u32, m: Meter) -> usize
-    ensures { AppendsRecord (record_for bus (plain_meter m)) at to.old result to.new }
+// The record of a meter, whatever its baud, behind those before it.
+fn append_meter(records: &mut Written<RECORDS>, bus: u32, m: Meter)
+    ensures { AppendsRecord (record_for bus (plain_meter m)) records.old records.new }
 {
     let rest = list_write::rest_of(bus, m);
-    list_write::append(to, at, rest)
+    records.push_record(rest.as_slice());
 }
 
-// The records of the meters, in segment order; how many bytes.
-fn write_records(image: &[u8; IMAGE], to: &mut [u8]) -> usize
-    requires { length to.old ≡ 46 * most_meters }
-    ensures { RecordsWritten (decode_image image.now) result to.new }
+// The records of the meters, in segment order: an image is read by place.
+fn write_records(image: &[u8; IMAGE]) -> Written<RECORDS>
+    ensures { RecordsWritten (decode_image image.now) result }
 {
     let bus = head::baud_of(image);
-    let count = head::count_of(image);
-    let mut at: usize = 0;
-    for i in 0..count {
-        let m = meters::meter_at(image, i);
-        at = append_meter(to, at, bus, m);
+    let mut records = Written::new();
+    for i in 0..head::count_of(image) {
+        append_meter(&mut records, bus, meters::meter_at(image, i));
     }
-    at
+    records
 }
 
 // The list's first three bytes: its version, and how many bytes follow, the high byte first.
@@ -120,11 +92,12 @@ pub fn export(image: &[u8; IMAGE], lent: &mut [u8]) -> Result<u16, ExportError>
     if any_above_250(image) {
         return Err(ExportError::HighPrimary);
     }
-    let mut records = [0u8; RECORDS];
-    let n = write_records(image, &mut records);
-    if lent.len() < n + 3 {
+    let written = write_records(image);
+    let records = written.as_slice();
+    let n = records.len() + 3;
+    if lent.len() < n {
         return Err(ExportError::NoRoom);
     }
-    write_list(lent, &records[..n]);
-    Ok((n + 3) as u16)
+    write_list(lent, records);
+    Ok(n as u16)
 }

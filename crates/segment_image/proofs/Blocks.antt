@@ -4,10 +4,10 @@ use mathlib.Core.List.{List, [], ◌++◌, append_assoc}
 use Prim.Native.Nat.{ℕ, ◌+◌, ◌-◌, ◌≤◌}
 use native.Mathlib.Omega.{arith}
 use borrow.Rule.Slice.PartMut.{put_mid}
-use lib.ListN.{length, take, drop, length-take, length-drop}
+use lib.ListN.{length, take, drop, length-drop}
 use lib.Seq.{paste, drop-drop, take-paste, length-paste, take-append-le, take-take, drop_at, drop-length, length-take-le}
-use Rattle.laws.proofs.Copying.{drop-take}
-use Rattle.laws.proofs.Lists.{take_rest}
+use Rattle.std.proofs.lemmas.List.{drop-take}
+use Rattle.std.proofs.lemmas.List.{take_rest}
 use Rattle.segment_image.specs.Image.{block}
 
 module _ (d : List ℕ) (p : ℕ) (s : List ℕ) (n : ℕ) (h : p + n ≤ length d) where
@@ -22,7 +22,7 @@ module _ (d : List ℕ) (p : ℕ) (s : List ℕ) (n : ℕ) (h : p + n ≤ length
   pub paste-at : n ≤ length s → block p n (paste d p s n) ≡ take n s
   paste-at m =
       let l : length (paste d p s n) ≡ length d = length-paste d p s n h m in
-      sym (drop-take p n (paste d p s n) (omega arith))
+      sym (drop-take p n (paste d p s n))
       ∙ ap (drop p) (take-paste d p s n (omega arith) m)
       ∙ drop_at (take p d) (take n s) p (length-take-le p d (omega arith))
 
@@ -31,12 +31,18 @@ pub put_over : (d s ys : List ℕ) (p k n : ℕ) → ys ≡ take n s → k ≡ n
 put_over d s ys p k n e h =
     rw (e, h, drop-drop n p d) (sym (append_assoc (take p d) (take n s) (drop (p + n) d)))
 
+-- what a part of s puts over d, s does, so far
+pub paste_part : (d s : List ℕ) (p n : ℕ) → n ≤ length s → paste d p (take n s) (length (take n s)) ≡ paste d p s n
+paste_part d s p n h =
+    ap (paste d p (take n s)) (length-take-le n s h)
+    ∙ ap (λ x. take p d ++ x ++ drop (p + n) d) (take-take n n s (omega arith))
+
 -- a block within the first k
 pub block-take : (p n k : ℕ) (l : List ℕ) → p + n ≤ k → p + n ≤ length l → block p n (take k l) ≡ block p n l
 block-take p n k l h m =
-    sym (drop-take p n (take k l) (rw length-take (omega arith)))
+    sym (drop-take p n (take k l))
     ∙ ap (drop p) (take-take (p + n) k l h)
-    ∙ drop-take p n l (omega arith)
+    ∙ drop-take p n l
 
 -- what two lists have in common at the front, their blocks there have in common
 pub block_same : (p n k : ℕ) (l m : List ℕ) → take k l ≡ take k m → p + n ≤ k → p + n ≤ length l → p + n ≤ length m → block p n l ≡ block p n m

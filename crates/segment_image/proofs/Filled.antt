@@ -11,9 +11,6 @@ use Rattle.segment_image.specs.Image.{filled}
 abbrev zeros : ℕ → List ℕ
 zeros n = replicate n 0
 
-zeros_add : (n m : ℕ) → zeros (n + m) ≡ zeros n ++ zeros m
-zeros_add n m = sym (replicate-append-replicate n m 0)
-
 -- a list of bytes 0, by its own length
 pub zeros_long : (n : ℕ) (l : List ℕ) → l ≡ zeros n → l ≡ zeros (length l)
 zeros_long n l e = e ∙ ap zeros (sym (ap length e ∙ length-replicate n 0))
@@ -21,7 +18,7 @@ zeros_long n l e = e ∙ ap zeros (sym (ap length e ∙ length-replicate n 0))
 pub drop_zeros : (n m : ℕ) → n ≤ m → drop n (zeros m) ≡ zeros (m - n)
 drop_zeros n m h =
     let e : m ≡ n + (m - n) = omega arith in
-    ap (λ (k : ℕ). drop n (zeros k)) e ∙ ap (drop n) (zeros_add n (m - n)) ∙ drop_at (zeros n) (zeros (m - n)) n (length-replicate n 0)
+    ap (λ (k : ℕ). drop n (zeros k)) e ∙ ap (drop n) (sym (replicate-append-replicate n (m - n) 0)) ∙ drop_at (zeros n) (zeros (m - n)) n (length-replicate n 0)
 
 pub length-filled : (n : ℕ) (bs : List ℕ) → length bs ≤ n → length (filled n bs) ≡ n
 length-filled n bs h = length-append bs (zeros (n - length bs)) ∙ ap (λ (k : ℕ). length bs + k) (length-replicate (n - length bs) 0) ∙ omega arith
@@ -39,8 +36,8 @@ paste-filled a s n k r p l h m =
     let e : k + r ≡ n + (k - n + r) = omega arith in
     let b : length (a ++ zeros n) ≡ p + n = length-append a (zeros n) ∙ omega (arith, l, length-replicate {A = ℕ} n 0) in
     let split : d ≡ a ++ zeros n ++ zeros (k - n + r) =
-    ap (λ (j : ℕ). a ++ zeros j) e ∙ ap (λ (x : List ℕ). a ++ x) (zeros_add n (k - n + r)) ∙ sym (append_assoc a (zeros n) (zeros (k - n + r))) in
-    let rest : drop (p + n) d ≡ zeros (k - n) ++ zeros r = ap (drop (p + n)) split ∙ drop_at (a ++ zeros n) (zeros (k - n + r)) (p + n) b ∙ zeros_add (k - n) r in
+    ap (λ (j : ℕ). a ++ zeros j) e ∙ ap (λ (x : List ℕ). a ++ x) (sym (replicate-append-replicate n (k - n + r) 0)) ∙ sym (append_assoc a (zeros n) (zeros (k - n + r))) in
+    let rest : drop (p + n) d ≡ zeros (k - n) ++ zeros r = ap (drop (p + n)) split ∙ drop_at (a ++ zeros n) (zeros (k - n + r)) (p + n) b ∙ sym (replicate-append-replicate (k - n) r 0) in
     let t = take n s in
     ap (λ (x : List ℕ). x ++ t ++ drop (p + n) d) (take_at a (zeros (k + r)) p l)
     ∙ ap (λ (x : List ℕ). a ++ t ++ x) rest

@@ -1,11 +1,8 @@
 -- The first 18 bytes of an image, by the bytes of its numbers.
 use mathlib.Core.Path.{◌≡◌}
 use mathlib.Core.List.{List, [], ◌∷◌, ◌++◌}
-use Prim.Native.Nat.{ℕ, ◌/◌}
-use native.Mathlib.Omega.{arith}
+use Prim.Native.Nat.{ℕ}
 use lib.Ieee.{Float, binary64, to_bits}
-use Rattle.std.specs.Int.{to_le_bytes}
-use Rattle.std.proofs.Common.{w64}
 use Rattle.laws.specs.Words.{at}
 use Rattle.laws.proofs.Lists.{four}
 use Rattle.numbers.specs.Values.{little}
@@ -16,18 +13,6 @@ two l = at l 0 ∷ at l 1 ∷ []
 
 abbrev eight : List ℕ → List ℕ
 eight l = four l ++ (at l 4 ∷ at l 5 ∷ at l 6 ∷ at l 7 ∷ [])
-
--- the library's eight bytes of a number
-pub little_eight : (v : ℕ) → to_le_bytes w64 v ≡ little 8 v
-unfolding little
-little_eight v =
-    let e₂ : v / 65536 ≡ v / 256 / 256 = omega arith in
-    let e₃ : v / 16777216 ≡ v / 256 / 256 / 256 = omega arith in
-    let e₄ : v / 4294967296 ≡ v / 256 / 256 / 256 / 256 = omega arith in
-    let e₅ : v / 1099511627776 ≡ v / 256 / 256 / 256 / 256 / 256 = omega arith in
-    let e₆ : v / 281474976710656 ≡ v / 256 / 256 / 256 / 256 / 256 / 256 = omega arith in
-    let e₇ : v / 72057594037927936 ≡ v / 256 / 256 / 256 / 256 / 256 / 256 / 256 = omega arith in
-    rw (e₂, e₃, e₄, e₅, e₆, e₇)
 
 pub head-is : (baud : ℕ) (origin : Float) (count waiting queued : ℕ) (b o c w q : List ℕ)
     → b ≡ little 4 baud → o ≡ little 8 (to_bits binary64 origin) → c ≡ little 2 count → w ≡ little 2 waiting → q ≡ little 2 queued

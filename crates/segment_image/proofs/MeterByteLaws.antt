@@ -5,7 +5,6 @@ use mathlib.Core.List.{List, [], ◌∷◌}
 use Prim.Native.Nat.{ℕ, ◌≤◌, ◌<◌}
 use lib.ListN.{length}
 use borrow.Author.Tests.{lt-ltb, le-ltb}
-use Rattle.std.specs.Int.{from_bool}
 use Rattle.laws.specs.Words.{bit_if, at}
 use Rattle.numbers.specs.Values.{little}
 use Rattle.meter_identity.specs.Identity.{digits_of_value, id_bytes_value}
@@ -40,11 +39,6 @@ few bs h = rw (lt-ltb (length bs) 25 h)
 
 pub enough : (bs : List ℕ) → 25 ≤ length bs → whole_meter bs ≡ bs
 enough bs h = rw (le-ltb (length bs) 25 h)
-
--- std's byte of a flag
-pub flag_is : (b : Bool) → from_bool b ≡ bit_if b
-flag_is true = refl
-flag_is false = refl
 
 -- what a byte is written for, it is read as
 pub flag_back : (b : Bool) → flag_by (bit_if b) ≡ b

@@ -4,10 +4,13 @@ use mathlib.Core.List.{List, [], ◌∷◌, ◌++◌, map, map-append}
 use Prim.Native.Nat.{ℕ, zero, suc, ◌+◌, ◌*◌, ◌≤◌, ◌<◌}
 use native.Mathlib.Numerals.{add-one}
 use native.Mathlib.Omega.{arith}
-use lib.ListN.{length, take, drop, set, get_or, length-drop, length-append}
-use lib.Seq.{paste, take-append-le, drop-drop, take-take, take_all, take-suc, take-suc-set, length-paste}
+use lib.ListN.{length, take, drop, get_or, length-drop, length-append}
+use lib.Seq.{paste, take-append-le, drop-drop, take-take, take_all, take-suc, take-length, length-paste}
+use Rattle.std.specs.Fn.{Called}
+use Rattle.std.specs.Array.{IsFromFnResult, IsFromFnResultFrom}
+use denote.Param.Members.{Mut}
 use Rattle.laws.specs.Words.{each}
-use Rattle.laws.proofs.Copying.{drop-take}
+use Rattle.std.proofs.lemmas.List.{drop-take}
 use Rattle.laws.proofs.Rows.{Rows, rows_begin, rows_more, rows_map}
 use Rattle.meter.specs.PlainMeter.{PlainMeter}
 use Rattle.meter.specs.View.{plain_meter}
@@ -36,27 +39,32 @@ meters_same (suc i) l k e h m =
     let f : take (25 + 25 * i) l ≡ take (25 + 25 * i) k = ap (λ (n : ℕ). take n l) (next i) ∙ e ∙ sym (ap (λ (n : ℕ). take n k) (next i)) in
     ap₂ (λ (x : List ℕ) (r : List PlainMeter). decode_meter x ∷ r)
     (sym (take-take 25 (25 + 25 * i) l (omega arith)) ∙ ap (take 25) f ∙ take-take 25 (25 + 25 * i) k (omega arith))
-    (meters_same i (drop 25 l) (drop 25 k) (sym (drop-take 25 (25 * i) l (omega arith)) ∙ ap (drop 25) f ∙ drop-take 25 (25 * i) k (omega arith)) (rw length-drop (omega arith))
+    (meters_same i (drop 25 l) (drop 25 k) (sym (drop-take 25 (25 * i) l) ∙ ap (drop 25) f ∙ drop-take 25 (25 * i) k) (rw length-drop (omega arith))
     (rw length-drop (omega arith)))
 
--- the first i meters are read from bs into ms
-pub record Got (bs : List ℕ) (i : ℕ) (ms : List Meter) : Type 0 where
-  pub is : map plain_meter (take i ms) ≡ meters i bs
+-- an array made by a closure of the place, which a call leaves as it was: each element is what a call gives
+module _ {F B : Type 0} {g : Mut F (ℕ × Unit {0}) B} {f : F} (P : ℕ → B → Type 0) (same : (i : ℕ) (y : B) (q : F) → Called g f (i, tt) y q → P i y × (q ≡ f)) where
+  made_from : (k n i : ℕ) (ys : List B) (d : B) → IsFromFnResultFrom g f ys i n → k < n → P (i + k) (get_or ys (i + k) d)
+  made_from k zero i ys d r h = absurd (omega arith)
+  made_from zero (suc n) i ys d r h =
+      let e : i ≡ i + 0 = omega arith in
+      subst (λ (j : ℕ). P j (get_or ys j d)) e (subst (P i) (sym (r.2.1 d)) (same i r.1 r.0 r.3).0)
+  made_from (suc k) (suc n) i ys d r h =
+      let e : i + 1 + k ≡ i + suc k = omega arith in
+      let rest : IsFromFnResultFrom g f ys (i + 1) n = subst (λ (x : F). IsFromFnResultFrom g x ys (i + 1) n) (same i r.1 r.0 r.3).1 r.4 in
+      subst (λ (j : ℕ). P j (get_or ys j d)) e (made_from k n (i + 1) ys d rest (omega arith))
 
-module _ {bs : List ℕ} where
-  pub got_none : {ms : List Meter} → Got bs 0 ms
-  got_none = record { is = unfold meters in refl }
+  pub made_each : {n : ℕ} {ys : List B} (k : ℕ) (d : B) → IsFromFnResult g f ys n → k < n → P k (get_or ys k d)
+  made_each {n} {ys} k d r h = let e : 0 + k ≡ k = omega arith in subst (λ (j : ℕ). P j (get_or ys j d)) e (made_from k n 0 ys d r.each h)
 
-  pub got_more : {i : ℕ} {ms : List Meter} (m : Meter) → Got bs i ms → i < length ms → plain_meter m ≡ decode_meter (block (25 * i) 25 bs) → Got bs (i + 1) (set ms i m)
-  got_more {i} {ms} m g h e =
-      record {
-        is =
-            rw (add-one, take-suc-set ms i m h, map-append plain_meter (take i ms) (m ∷ []), g.is)
-            (ap (λ (x : PlainMeter). meters i bs ++ (x ∷ [])) e ∙ sym (meters_more i bs));
-      }
-
-  pub got_all : {i : ℕ} {ms : List Meter} (n : ℕ) → Got bs i ms → i ≡ n → map plain_meter (take n ms) ≡ meters n bs
-  got_all {i} {ms} n g e = subst (λ (k : ℕ). map plain_meter (take k ms) ≡ meters k bs) e g.is
+-- the first n meters are read from bs into ms
+pub meters_read : (bs : List ℕ) (ms : List Meter) (d : Meter) (n : ℕ) → n ≤ length ms
+    → ((i : ℕ) → i < n → plain_meter (get_or ms i d) ≡ decode_meter (block (25 * i) 25 bs))
+    → map plain_meter (take n ms) ≡ meters n bs
+meters_read bs ms d zero h each = unfold meters in refl
+meters_read bs ms d (suc n) h each =
+    rw (take-suc ms n d (omega arith), map-append plain_meter (take n ms) (get_or ms n d ∷ []), meters_read bs ms d n (omega arith) (λ i m. each i (omega arith)))
+    (ap (λ (x : PlainMeter). meters n bs ++ (x ∷ [])) (each n (omega arith)) ∙ sym (meters_more n bs))
 
 abbrev bytes : Meter → List ℕ
 bytes m = encode_meter (plain_meter m)
@@ -94,11 +102,12 @@ module _ {ms : List Meter} {bs₀ : List ℕ} where
             (sym (map-append plain_meter (take i ms) (get_or ms i d ∷ [])));
       }
 
-  pub put_all : {i : ℕ} {bs : List ℕ} (n : ℕ) → Put ms bs₀ i bs → i ≡ n
-      → (bs ≡ each (map plain_meter (take n ms)) encode_meter ++ drop (25 * n) bs₀) × (meters n bs ≡ map plain_meter (take n ms))
-  put_all {i} {bs} n g e =
-      subst (λ (k : ℕ). (bs ≡ each (map plain_meter (take k ms)) encode_meter ++ drop (25 * k) bs₀) × (meters k bs ≡ map plain_meter (take k ms))) e
-      (g.written.is ∙ ap (λ (r : List ℕ). r ++ drop (25 * i) bs₀) (rows_map encode_meter plain_meter (take i ms)), g.is)
+  pub put_all : {i : ℕ} {bs : List ℕ} → Put ms bs₀ i bs → i ≡ length ms
+      → (bs ≡ each (map plain_meter ms) encode_meter ++ drop (25 * length ms) bs₀) × (meters (length ms) bs ≡ map plain_meter ms)
+  put_all {i} {bs} g e =
+      let said : ℕ → List Meter → Type 0 = λ k xs. (bs ≡ each (map plain_meter xs) encode_meter ++ drop (25 * k) bs₀) × (meters k bs ≡ map plain_meter xs) in
+      subst (said (length ms)) (take-length ms)
+      (subst (λ (k : ℕ). said k (take k ms)) e (g.written.is ∙ ap (λ (r : List ℕ). r ++ drop (25 * i) bs₀) (rows_map encode_meter plain_meter (take i ms)), g.is))
 
 -- what lies behind the meters has no part in them
 pub meters_front : (i : ℕ) (bs r : List ℕ) → 25 * i ≤ length bs → meters i (bs ++ r) ≡ meters i bs

@@ -6,7 +6,7 @@ use native.Mathlib.Omega.{arith}
 use lib.Ieee.{Float, binary64, of_bits}
 use lib.ListN.{length, take, drop, replicate, length-append, length-replicate}
 use lib.Seq.{paste, length-paste, take_at, drop_at, take-take, length-take-le, take_all}
-use Rattle.laws.proofs.Copying.{take_min}
+use Rattle.std.proofs.lemmas.List.{take_min}
 use Rattle.laws.specs.Words.{each}
 use Rattle.meter.specs.View.{plain_meter}
 use Rattle.segment_image.specs.MeterBytes.{encode_meter}

@@ -6,20 +6,24 @@ ghost use Rattle.std.specs.Prelude.{◌≡◌, map, ◌++◌, ◌+◌, ◌*◌, 
 ghost use Rattle.laws.specs.Words.{each};
 ghost use Rattle.list_open.specs.Opening.{capacity};
 ghost use Rattle.meter.specs.View.{plain_meter};
-ghost use Rattle.segment_image.specs.MeterBytes.{encode_meter};
+ghost use Rattle.segment_image.specs.MeterBytes.{decode_meter, encode_meter};
 ghost use Rattle.segment.specs.View.{plain_of};
 ghost use Rattle.segment_image.specs.Image.{block, meters, decode_image, Head, head_bytes_value, IsImage};
 
+use copying::bytes_at;
 use meter::Meter;
-use numbers::{four, two};
 use segment::{INPUT, METERS, QUEUE, Segment};
+use std::array;
 
 pub mod meters; // meters.rt: a meter as 25 bytes
-mod copying; // copying.rt: the eight bytes of an f64's pattern, and blocks of bytes
+mod copying; // copying.rt: bytes out of a place, and blocks of bytes into one
 
-// Where the parts lie: how many meters there are, how many bytes wait and how many are queued, two bytes each; the
-// input; the queue; the meters, and how
-// many bytes each has.
+// Where the parts lie: baud, four bytes; origin, eight; how many meters there are, how many bytes wait and how many are
+// queued, two bytes each; the input; the queue; the meters, and how many bytes each has.
+pub const BAUD_AT: usize = 0;
+
+pub const ORIGIN_AT: usize = 4;
+
 pub const COUNT_AT: usize = 12;
 
 pub const WAITING_AT: usize = 14;
@@ -39,10 +43,17 @@ pub const IMAGE: usize = METERS_AT + METER * METERS;
 
 // ---- the meters
 
-fn blank_meters() -> [Meter; METERS] {
-    let none = list_open::opening::begin();
-    let meters = none.meters;
-    meters
+// The meter at the place i, if it is one of the first count; else a blank one.
+fn meter_or_blank(bs: &[u8], count: usize, i: usize) -> Meter
+    requires { (length bs.now ≡ 25 * capacity) × (count ≤ capacity) }
+    ensures { i < count → plain_meter result ≡ decode_meter (block (25 * i) 25 bs.now) }
+{
+    if i < count {
+        let p = METER * i;
+        meters::read_meter(&bs[p..p + METER])
+    } else {
+        Meter::default()
+    }
 }
 
 // The first count meters; the others are blank.
@@ -50,22 +61,17 @@ fn read_meters(bs: &[u8], count: usize) -> [Meter; METERS]
     requires { (length bs.now ≡ 25 * capacity) × (count ≤ capacity) }
     ensures { map plain_meter (take count result) ≡ meters count bs.now }
 {
-    let mut ms = blank_meters();
-    for i in 0..count {
-        let p = METER * i;
-        ms[i] = meters::read_meter(&bs[p..p + METER]);
-    }
-    ms
+    array::from_fn(|i| meter_or_blank(bs, count, i))
 }
 
-// The first count meters.
-fn write_meters(ms: [Meter; METERS], count: usize, bs: &mut [u8])
-    requires { (length bs.old ≡ 25 * capacity) × (count ≤ capacity) }
-    ensures { (bs.new ≡ each (map plain_meter (take count ms)) encode_meter ++ drop (25 * count) bs.old) × (meters count bs.new ≡ map plain_meter (take count ms)) }
+// Meters, one behind the other from the front on.
+fn write_meters(ms: &[Meter], bs: &mut [u8])
+    requires { (length bs.old ≡ 25 * capacity) × (length ms.now ≤ capacity) }
+    ensures { (bs.new ≡ each (map plain_meter ms.now) encode_meter ++ drop (25 * length ms.now) bs.old) × (meters (length ms.now) bs.new ≡ map plain_meter ms.now) }
 {
-    for i in 0..count {
-        let b = meters::meter_bytes(ms[i]);
-        copying::copy(&b, 0, METER, bs, METER * i);
+    for (i, m) in ms.iter().enumerate() {
+        let b = meters::meter_bytes(*m);
+        copying::copy(&b, bs, METER * i);
     }
 }
 
@@ -86,17 +92,17 @@ pub fn read_image(image: &[u8; IMAGE]) -> Segment
     ensures { plain_of result ≡ decode_image image.now }
 {
     let bs = &image[..];
-    let count = usize::from(two(bs[COUNT_AT], bs[COUNT_AT + 1])).min(METERS);
-    let waiting = usize::from(two(bs[WAITING_AT], bs[WAITING_AT + 1])).min(INPUT);
-    let queued = usize::from(two(bs[QUEUED_AT], bs[QUEUED_AT + 1])).min(QUEUE);
+    let count = usize::from(u16::from_le_bytes(bytes_at(bs, COUNT_AT))).min(METERS);
+    let waiting = usize::from(u16::from_le_bytes(bytes_at(bs, WAITING_AT))).min(INPUT);
+    let queued = usize::from(u16::from_le_bytes(bytes_at(bs, QUEUED_AT))).min(QUEUE);
     let input = read_part::<INPUT>(bs, INPUT_AT, waiting);
     let queue = read_part::<QUEUE>(bs, QUEUE_AT, queued);
     let meters = read_meters(&bs[METERS_AT..], count);
     Segment {
         meters,
         count,
-        baud: four(bs[0], bs[1], bs[2], bs[3]),
-        origin: time_seconds::f64_from_bits(copying::origin_bits(bs)),
+        baud: u32::from_le_bytes(bytes_at(bs, BAUD_AT)),
+        origin: time_seconds::f64_from_bits(u64::from_le_bytes(bytes_at(bs, ORIGIN_AT))),
         input,
         waiting,
         queue,
@@ -104,16 +110,16 @@ pub fn read_image(image: &[u8; IMAGE]) -> Segment
     }
 }
 
-// The first 18 bytes. A NaN goes as one fixed pattern.
+// The first 18 bytes, of five numbers that stand together here alone. A NaN goes as one fixed pattern.
 fn head_bytes(baud: u32, origin: f64, count: usize, waiting: usize, queued: usize) -> [u8; INPUT_AT]
     requires { (count < 65536) × (waiting < 65536) × (queued < 65536) }
     ensures { (result ≡ head_bytes_value baud origin count waiting queued) × Head baud origin count waiting queued result }
 {
-    let b = numbers::le4(baud as u64);
-    let o = copying::eight_bytes(time_seconds::f64_bits(origin));
-    let c = numbers::le2(count as u64);
-    let w = numbers::le2(waiting as u64);
-    let q = numbers::le2(queued as u64);
+    let b = baud.to_le_bytes();
+    let o = time_seconds::f64_bits(origin).to_le_bytes();
+    let c = (count as u16).to_le_bytes();
+    let w = (waiting as u16).to_le_bytes();
+    let q = (queued as u16).to_le_bytes();
     [
         b[0], b[1], b[2], b[3], o[0], o[1], o[2], o[3], o[4], o[5], o[6], o[7], c[0], c[1], w[0],
         w[1], q[0], q[1],
@@ -129,10 +135,10 @@ fn write_parts(s: Segment, bs: &mut [u8])
     let waiting = s.waiting.min(INPUT);
     let queued = s.queued.min(QUEUE);
     let head = head_bytes(s.baud, s.origin, count, waiting, queued);
-    copying::copy(&head, 0, INPUT_AT, bs, 0);
-    copying::copy(&s.input, 0, waiting, bs, INPUT_AT);
-    copying::copy(&s.queue, 0, queued, bs, QUEUE_AT);
-    write_meters(s.meters, count, &mut bs[METERS_AT..]);
+    copying::copy(&head, bs, 0);
+    copying::copy(&s.input[..waiting], bs, INPUT_AT);
+    copying::copy(&s.queue[..queued], bs, QUEUE_AT);
+    write_meters(&s.meters[..count], &mut bs[METERS_AT..]);
 }
 
 // The image of the segment. Equal segments have equal images.

@@ -3,8 +3,9 @@ ghost use Rattle.std.specs.Prelude.{◌≡◌};
 ghost use Rattle.meter.specs.View.{plain_meter};
 ghost use Rattle.segment_image.specs.MeterBytes.{last_by, whole_meter, decode_meter, last_byte_value, encode_meter};
 
+use crate::METER;
+use crate::copying::bytes_at;
 use meter::{Built, Fault, Meter, Model, State};
-use numbers::{four, le2, le4, two};
 
 // The last FCB by its byte, and its byte: no impl of `From` may lie between types that are both std's.
 fn last(b: u8) -> Option<bool>
@@ -31,18 +32,18 @@ fn last_byte(last: Option<bool>) -> u8
 pub fn read_meter(bs: &[u8]) -> Meter
     ensures { plain_meter result ≡ decode_meter (whole_meter bs.now) }
 {
-    if bs.len() < 25 {
+    if bs.len() < METER {
         return Meter::default();
     }
     Meter {
         built: Built {
-            id: four(bs[1], bs[2], bs[3], bs[4]),
-            manufacturer: two(bs[5], bs[6]),
+            id: u32::from_le_bytes(bytes_at(bs, 1)),
+            manufacturer: u16::from_le_bytes(bytes_at(bs, 5)),
             version: bs[7],
             medium: bs[8],
             model: Model::from(bs[9]),
             fault: Fault::from(bs[10]),
-            seed: four(bs[20], bs[21], bs[22], bs[23]),
+            seed: u32::from_le_bytes(bytes_at(bs, 20)),
         },
         state: State {
             primary: bs[0],
@@ -52,20 +53,20 @@ pub fn read_meter(bs: &[u8]) -> Meter
             last: last(bs[18]),
             readouts: bs[19],
             hearing: bs[24] != 0,
-            baud: four(bs[12], bs[13], bs[14], bs[15]),
+            baud: u32::from_le_bytes(bytes_at(bs, 12)),
         },
     }
 }
 
 // The bytes of a meter, which mean it.
-pub fn meter_bytes(m: Meter) -> [u8; 25]
+pub fn meter_bytes(m: Meter) -> [u8; METER]
     ensures { (result ≡ encode_meter (plain_meter m)) × (decode_meter result ≡ plain_meter m) }
 {
     let Meter { built, state } = m;
-    let id = le4(u64::from(built.id));
-    let manufacturer = le2(u64::from(built.manufacturer));
-    let baud = le4(u64::from(state.baud));
-    let seed = le4(u64::from(built.seed));
+    let id = built.id.to_le_bytes();
+    let manufacturer = built.manufacturer.to_le_bytes();
+    let baud = state.baud.to_le_bytes();
+    let seed = built.seed.to_le_bytes();
     [
         state.primary,
         id[0],

@@ -7,13 +7,13 @@ use lib.ListN.{length, take, drop}
 use lib.Seq.{paste, length-paste, drop-paste, take_all}
 use Rattle.numbers.specs.Values.{little}
 use Rattle.numbers.specs.Number.{number}
-use Rattle.numbers.proofs.NumberLaws.{number-little}
+use Rattle.numbers.proofs.NumberLaws.{number-little, number-drop}
 use Rattle.segment.specs.Plain.{Plain}
 use Rattle.segment_image.specs.Image.{decode_image, filled, encode_image}
 use Rattle.segment_places.specs.ProgramBecomes.{Becomes}
 use Rattle.segment_places.proofs.PlaceLaws.{input_short, queue_short}
 use Rattle.segment.specs.Plain.{with_baud_value}
-use Rattle.segment_places.proofs.PartLaws.{whole, Parts, head_of, meters_of_value, number-drop, number_front, parts-mean, put-head, parts_are, parts_long, image_parts, image_parts_long}
+use Rattle.segment_places.proofs.PartLaws.{whole, Parts, head_of, meters_of_value, number_front, parts-mean, put-head, parts_are, parts_long, image_parts, image_parts_long}
 
 little_four : (b : ℕ) → length (little 4 b) ≡ 4
 unfolding little

@@ -1,17 +1,17 @@
 -- An image by its parts, and bytes put over one of them.
 use mathlib.Core.Path.{◌≡◌, refl, sym, ap, ap₂, ◌∙◌}
 use mathlib.Core.List.{List, ◌++◌, append_assoc}
-use Prim.Native.Nat.{ℕ, zero, suc, ◌+◌, ◌*◌, ◌≤◌, min}
+use Prim.Native.Nat.{ℕ, ◌+◌, ◌*◌, ◌≤◌, min}
 use native.Mathlib.Omega.{arith}
 use lib.Ieee.{binary64, to_bits, of_bits}
 use lib.ListN.{length, take, drop, length-drop, take-append-drop}
-use lib.Seq.{paste, take-append-le, drop-append-le, take_all, take_at, drop_at, drop-drop, get_or-drop, length-take-le}
+use lib.Seq.{paste, take-append-le, drop-append-le, take_all, take_at, drop_at, drop-drop, length-take-le}
 use Rattle.laws.specs.Words.{each}
 use Rattle.numbers.specs.Values.{little}
 use Rattle.segment_image.specs.MeterBytes.{encode_meter}
 use Rattle.list_open.specs.Opening.{capacity}
 use Rattle.numbers.specs.Number.{number}
-use Rattle.numbers.proofs.NumberLaws.{number-take}
+use Rattle.numbers.proofs.NumberLaws.{number-take, number-drop}
 use Rattle.segment.specs.Plain.{Plain}
 use Rattle.segment_image.specs.Image.{meters, decode_image, head_bytes_value, filled, encode_image}
 use Rattle.segment_image.proofs.Filled.{length-filled}
@@ -30,13 +30,6 @@ over_two : (f r s : List ℕ) → length f ≡ 2 → length s ≡ 2 → paste (f
 over_two f r s e g = ap₂ (λ x y. x ++ y) (take_all 2 s (omega arith)) (drop_at f r 2 e)
 
 -- a number behind some bytes
-pub number-drop : (n k p : ℕ) (l : List ℕ) → number n (k + p) l ≡ number n p (drop k l)
-unfolding number
-number-drop zero k p l = refl
-number-drop (suc n) k p l =
-    let e : suc (k + p) ≡ k + suc p = omega arith in
-    ap₂ (λ x y. x + 256 * y) (sym (get_or-drop k l p 0)) (ap (λ x. number n x l) e ∙ number-drop n k (suc p) l)
-
 pub number_front : (n p : ℕ) (f r : List ℕ) → p + n ≤ length f → number n p (f ++ r) ≡ number n p f
 number_front n p f r h =
     sym (number-take n p (length f) (f ++ r) h) ∙ ap (number n p) (take_at f r (length f) refl)

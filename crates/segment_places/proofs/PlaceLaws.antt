@@ -5,8 +5,8 @@ use Prim.Native.Nat.{ℕ, zero, suc, ◌+◌, ◌-◌, ◌*◌, ◌≤◌, ◌<�
 use native.Mathlib.Omega.{arith}
 use lib.Ieee.{Float, binary64, of_bits}
 use lib.ListN.{length, take, drop, set, get_or, replicate, length-append, length-drop, length-take, length-set}
-use lib.Seq.{paste, length-paste, drop-append-le, take-append-add, drop-append-add, take_all, take_at, drop_at, drop-drop, length-take-le}
-use Rattle.laws.proofs.Copying.{drop-take}
+use lib.Seq.{paste, length-paste, drop-append-le, take-append-add, drop-append-add, take_all, take_at, drop_at, drop-drop, length-take-le, take-nil}
+use Rattle.std.proofs.lemmas.List.{drop-take, drop_all}
 use Rattle.laws.specs.Words.{each}
 use Rattle.laws.proofs.Rows.{length_rows}
 use Rattle.numbers.specs.Values.{little}
@@ -33,7 +33,7 @@ module _ (s : List ℕ) (n : ℕ) where
       let e : k + (p + n) ≡ k + p + n = omega arith in
       drop-append-le k (a ++ take n s) (drop (k + p + n) l) (rw length-append (omega arith))
       ∙ ap (λ x. x ++ drop (k + p + n) l) (drop-append-le k a (take n s) (omega arith))
-      ∙ ap (λ x. x ++ take n s ++ drop (k + p + n) l) (drop-take k p l (omega arith))
+      ∙ ap (λ x. x ++ take n s ++ drop (k + p + n) l) (drop-take k p l)
       ∙ ap (λ x. take p (drop k l) ++ take n s ++ x) (ap (λ m. drop m l) (sym e) ∙ sym (drop-drop (p + n) k l))
 
   -- a copy into the second of two lists
@@ -49,29 +49,13 @@ module _ (s : List ℕ) (n : ℕ) where
 paste_front : (l b : List ℕ) → length b ≡ 25 → paste l 0 b 25 ≡ b ++ drop 25 l
 paste_front l b w = ap (λ x. x ++ drop 25 l) (take_all 25 b (omega arith))
 
--- nothing is set past the end
-pub set_past : {A : Type 0} (xs : List A) (i : ℕ) (x : A) → length xs ≤ i → set xs i x ≡ xs
-set_past [] i x h = refl
-set_past (y ∷ xs) zero x h = absurd (omega arith)
-set_past (y ∷ xs) (suc i) x h = ap (λ r. y ∷ r) (set_past xs i x (omega arith))
-
-take_none : (n : ℕ) → ◌≡◌ {A = List ℕ} (take n []) []
-take_none zero = refl
-take_none (suc n) = refl
-
-drop_past : {A : Type 0} (k : ℕ) (xs : List A) → length xs ≤ k → drop k xs ≡ []
-drop_past zero [] h = refl
-drop_past zero (x ∷ xs) h = absurd (omega arith)
-drop_past (suc k) [] h = refl
-drop_past (suc k) (x ∷ xs) h = drop_past k xs (omega arith)
-
 -- ---- meters, one behind the other
 
 -- past the last place there are no bytes
 pub meter_past : (l : List ℕ) (i n : ℕ) → length l ≡ 5974 → 64 ≤ i → decode_meter (whole_meter (take n (drop 5974 l))) ≡ meter_in i l
 meter_past l i n e h =
-    ap decode_meter (ap (λ x. whole_meter (take n x)) (drop_past 5974 l (omega arith)) ∙ ap whole_meter (take_none n))
-    ∙ sym (ap (λ x. decode_meter (take 25 x)) (drop_past (4374 + 25 * i) l (omega arith)))
+    ap decode_meter (ap (λ x. whole_meter (take n x)) (drop_all 5974 l (omega arith)) ∙ ap whole_meter (take-nil n))
+    ∙ sym (ap (λ x. decode_meter (take 25 x)) (drop_all (4374 + 25 * i) l (omega arith)))
 
 next : (i : ℕ) → 25 * suc i ≡ 25 + 25 * i
 next i = omega arith

@@ -7,7 +7,7 @@ use native.Mathlib.Nat.{zero-add}
 use native.Mathlib.Omega.{arith}
 use lib.ListN.{length, take, drop, replicate, length-append, length-replicate}
 use lib.Seq.{paste, length-paste, take-paste, take_all, take_at}
-use Rattle.laws.proofs.Copying.{take_min}
+use Rattle.std.proofs.lemmas.List.{take_min}
 use Rattle.numbers.specs.Values.{little}
 use Rattle.numbers.specs.Number.{number}
 use Rattle.numbers.proofs.NumberLaws.{number-little}

@@ -7,7 +7,7 @@ use native.Mathlib.Omega.{arith}
 use lib.ListN.{length, take, drop, length-drop, length-replicate, replicate-append-replicate}
 use lib.Seq.{paste, length-paste, take-paste, drop-paste, take_all, take_at, drop_at, drop-drop, drop-append-le, take-append-le, take-take, take-length}
 use Rattle.numbers.specs.Values.{little}
-use Rattle.laws.proofs.Copying.{drop-take}
+use Rattle.std.proofs.lemmas.List.{drop-take}
 use Rattle.numbers.specs.Number.{number}
 use Rattle.numbers.proofs.NumberLaws.{number-little}
 use Rattle.segment.specs.Plain.{with_queue}
@@ -56,9 +56,6 @@ module _ (l : List ℕ) (long : length l ≡ 5974) (change f : List ℕ → List
 zeros_long : (n : ℕ) → length (zeros n) ≡ n
 zeros_long n = length-replicate {A = ℕ} n 0
 
-zeros_add : (a b c : ℕ) → a + b ≡ c → zeros a ++ zeros b ≡ zeros c
-zeros_add a b c e = replicate-append-replicate a b 0 ∙ ap zeros e
-
 -- ---- clear
 
 module _ (l : List ℕ) (long : length l ≡ 5974) (q : ℕ) (is : q ≡ length (decode_image l).queue) where
@@ -84,9 +81,10 @@ module _ (l : List ℕ) (long : length l ≡ 5974) (q : ℕ) (is : q ≡ length 
   cleared_clean : paste (filled 4096 (decode_image l).queue) 0 (zeros q) q ≡ filled 4096 []
   cleared_clean =
       let qs = (decode_image l).queue in
+      let all : q + (4096 - length qs) ≡ 4096 = omega (arith, queue_short l) in
       ap₂ (λ x y. x ++ y) (take_all q (zeros q) (omega (arith, zeros_long q)))
       (ap (λ j. drop j (filled 4096 qs)) (zero-add q) ∙ drop_at qs (zeros (4096 - length qs)) q (sym is))
-      ∙ zeros_add q (4096 - length qs) 4096 (omega (arith, queue_short l))
+      ∙ replicate-append-replicate q (4096 - length qs) 0 ∙ ap zeros all
 
   pub clear_becomes : Becomes l (with_queue [] (decode_image l)) (cleared l)
   clear_becomes = requeue l long cleared (λ qs. paste qs 0 (zeros q) q) 0 [] cleared_long cleared_over blank_long (λ qs e f. refl) cleared_clean refl (omega arith)
@@ -131,7 +129,7 @@ module _ (l : List ℕ) (long : length l ≡ 5974) (q n : ℕ) (is : q ≡ lengt
         let b : n + (q - n) ≡ q = omega arith in
         ap (λ j. take j (moved qs)) a
         ∙ take-paste qs 0 (drop n qs) (q - n) (omega arith) rest_long
-        ∙ sym (drop-take n (q - n) qs (omega (arith, most)))
+        ∙ sym (drop-take n (q - n) qs)
         ∙ ap (λ j. drop n (take j qs)) b
         ∙ ap (drop n) f
 
@@ -171,7 +169,7 @@ module _ (l : List ℕ) (long : length l ≡ 5974) (q n : ℕ) (is : q ≡ lengt
       ap₂ (λ x y. x ++ take n (zeros n) ++ y) (moved_first qs e (take_at s (zeros (4096 - length s)) q (sym is))) (moved_rest qs e ∙ drop_at s (zeros (4096 - length s)) q (sym is))
       ∙ ap (λ y. drop n s ++ y ++ zeros (4096 - length s)) (take_all n (zeros n) (omega (arith, zeros_long n)))
       ∙ append_assoc (drop n s) (zeros n) (zeros (4096 - length s))
-      ∙ ap (λ y. drop n s ++ y) (zeros_add n (4096 - length s) (4096 - length (drop n s)) (sym d))
+      ∙ ap (λ y. drop n s ++ y) (replicate-append-replicate n (4096 - length s) 0 ∙ ap zeros (sym d))
 
   pub take_becomes : Becomes l (with_queue (drop n (decode_image l).queue) (decode_image l)) (shorter l)
   take_becomes =

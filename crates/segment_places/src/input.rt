@@ -45,8 +45,7 @@ pub fn waiting(image: &[u8; IMAGE]) -> &[u8]
     ensures { result.now ≡ (decode_image image.now).input }
 {
     let n = head::waiting_of(image);
-    let whole = &image[..];
-    &whole[INPUT_AT..INPUT_AT + n]
+    &image[INPUT_AT..INPUT_AT + n]
 }
 
 fn line_of(image: &[u8; IMAGE], waiting: usize, piece: &[u8]) -> [u8; LINE]
@@ -54,13 +53,12 @@ fn line_of(image: &[u8; IMAGE], waiting: usize, piece: &[u8]) -> [u8; LINE]
     ensures { take (waiting + length piece.now) result ≡ (decode_image image.now).input ++ piece.now }
 {
     let mut line = [0; LINE];
-    let whole = &image[..];
-    place::put(&mut line, 0, &whole[INPUT_AT..INPUT_AT + waiting]);
+    place::put(&mut line, 0, &image[INPUT_AT..INPUT_AT + waiting]);
     place::put(&mut line, waiting, piece);
     line
 }
 
-// What waits, and a piece behind it: at most 1,024 bytes of it.
+// What waits, and a piece behind it: at most 1,024 bytes of it. An array, since nothing here may lie on the heap.
 pub fn with_piece(image: &[u8; IMAGE], piece: &[u8]) -> [u8; LINE]
     ensures { take (length (decode_image image.now).input + min (length piece.now) 1024) result ≡ (decode_image image.now).input ++ take 1024 piece.now }
 {

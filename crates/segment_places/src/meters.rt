@@ -15,19 +15,18 @@ fn read_at(image: &[u8; IMAGE], i: usize) -> Meter
     ensures { plain_meter result ≡ meter_in i image.now }
 {
     let p = METERS_AT + METER * i;
-    let whole = &image[..];
-    meters::read_meter(&whole[p..p + METER])
+    meters::read_meter(&image[p..p + METER])
 }
 
-// The meter at the place i. Past the last place there are no bytes, which mean one too.
+// The meter at the place i. Past the last place it is a blank one.
 pub fn meter_at(image: &[u8; IMAGE], i: usize) -> Meter
     ensures { plain_meter result ≡ meter_in i image.now }
 {
     if i < METERS {
-        return read_at(image, i);
+        read_at(image, i)
+    } else {
+        Meter::default()
     }
-    let whole = &image[..];
-    meters::read_meter(&whole[IMAGE..])
 }
 
 // Another meter over the bytes of one that is there.

@@ -1,12 +1,12 @@
 // Bytes and numbers at a place of an image.
-ghost use Rattle.std.specs.Prelude.{◌≡◌, ◌+◌, ◌≤◌, length, replicate};
+ghost use Rattle.std.specs.Prelude.{◌≡◌, ◌+◌, ◌*◌, ◌≤◌, ◌<◌, length, take, drop, replicate};
 ghost use Rattle.std.proofs.Math.Seq.{paste};
 ghost use Rattle.numbers.specs.Values.{little};
-ghost use Rattle.numbers.specs.Number.{number};
 
 use segment_image::IMAGE;
 
-// Some bytes over those from p on.
+// Some bytes over those from p on. Private, as `copy` of segment_image: one for both would be public, with no `requires`,
+// and would test again what both know.
 pub(crate) fn put(image: &mut [u8], p: usize, bytes: &[u8])
     requires { p + length bytes.now ≤ length image.old }
     ensures { image.new ≡ paste image.old p bytes.now (length bytes.now) }
@@ -22,26 +22,23 @@ pub(crate) fn fill(image: &mut [u8], p: usize, n: usize, b: u8)
     image[p..p + n].fill(b);
 }
 
-// A number of two bytes, and one of four.
-pub(crate) fn two_at(image: &[u8], p: usize) -> usize
-    requires { p + 2 ≤ length image.now }
-    ensures { result ≡ number 2 p image.now }
+// The N bytes from p on. Private, as the same of segment_image: one for both would be public, with no `requires`, and
+// would test again what both know.
+pub(crate) fn bytes_at<const N: usize>(image: &[u8], p: usize) -> [u8; N]
+    requires { p + N ≤ length image.now }
+    ensures { result ≡ take N (drop p image.now) }
 {
-    usize::from(numbers::two(image[p], image[p + 1]))
+    let mut bytes = [0; N];
+    bytes.copy_from_slice(&image[p..p + N]);
+    bytes
 }
 
-pub(crate) fn four_at(image: &[u8; IMAGE], p: usize) -> u32
-    requires { p + 4 ≤ 5974 }
-    ensures { result ≡ number 4 p image.now }
-{
-    numbers::four(image[p], image[p + 1], image[p + 2], image[p + 3])
-}
-
-// A number, as two bytes from p on.
+// The two low bytes of a number, from p on.
+#[tactic(auto, unfolding(numbers::specs::Values::little))]
 pub(crate) fn put_two(image: &mut [u8; IMAGE], p: usize, n: usize)
     requires { p + 2 ≤ 5974 }
     ensures { image.new ≡ paste image.old p (little 2 n) 2 }
 {
-    let b = numbers::le2(n as u64);
-    put(image, p, &b)
+    let [low, high, ..] = n.to_le_bytes();
+    put(image, p, &[low, high])
 }

@@ -26,7 +26,8 @@ pub fn append(image: &mut [u8; IMAGE], more: &[u8]) -> Result<(), QueueFull>
     Ok(())
 }
 
-// n times the byte b behind those queued, if there is room for them.
+// n times the byte b behind those queued, if there is room for them. For `append` an array of n bytes would have to be
+// made.
 pub fn append_same(image: &mut [u8; IMAGE], n: usize, b: u8) -> Result<(), QueueFull>
     ensures { Queues (replicate n b) image.old result image.new }
 {
@@ -78,8 +79,7 @@ fn copy_out(image: &[u8; IMAGE], n: usize, lent: &mut [u8])
     requires { (n ≤ length (decode_image image.now).queue) × (n ≤ length lent.old) }
     ensures { lent.new ≡ take n (decode_image image.now).queue ++ drop n lent.old }
 {
-    let whole = &image[..];
-    place::put(lent, 0, &whole[QUEUE_AT..QUEUE_AT + n])
+    place::put(lent, 0, &image[QUEUE_AT..QUEUE_AT + n])
 }
 
 // The first of the queued bytes, at most so many and no more than are lent, become the first of what is lent; how many.

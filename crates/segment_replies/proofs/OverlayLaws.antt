@@ -1,32 +1,14 @@
 -- Replies joined by AND, byte by byte: one more reply at the end of the list, and the loop that lays it over those
 -- before.
-use Rattle.std.proofs.Common.{◌≡◌, ℕ, zero, suc, ◌+◌, ◌*◌, ◌/◌, ◌%◌, ◌<◌, ◌≤◌, min, max, Bool, true, false, ◌&&◌, eqb, List, [], ◌∷◌, ◌++◌, length, get_or, take, set, sym, refl, ap, ◌∙◌, subst, ap₂, arith, length-set, length-take, get_or-set_other, get_or-take, get_or-set_same, eq-eqb, ne_eqb, eqb-true}
-use lib.Bits.{bit_and, and_step, and_zero_l, and_comm, and_le_r, and_mask}
+use Rattle.std.proofs.Common.{◌≡◌, ℕ, ◌+◌, ◌<◌, max, Bool, true, false, ◌&&◌, eqb, List, [], ◌∷◌, ◌++◌, length, get_or, take, set, sym, refl, ap, ◌∙◌, subst, ap₂, arith, length-set, length-take, get_or-set_other, get_or-set_same, ne_eqb, eqb-true}
+use lib.Bits.{bit_and, and_comm, and_le_r, and_mask}
 use borrow.Author.Tests.{eqb-false}
+use Rattle.std.proofs.lemmas.Nat.{and_assoc}
+use Rattle.std.proofs.lemmas.List.{get_or_default}
 use Rattle.segment_replies.specs.Replies.{is_e5, all_e5, longest, overlaid}
 use Rattle.segment_replies.specs.ProgramJoining.{Overlays}
 
 -- ---- AND
-
-and_half : (a b : ℕ) → bit_and a b / 2 ≡ bit_and (a / 2) (b / 2)
-and_half a b = omega (arith, and_step a b)
-
-and-odd : (a b : ℕ) → bit_and a b % 2 ≡ min (a % 2) (b % 2)
-and-odd a b = omega (arith, and_step a b)
-
-assoc_below : (n a b c : ℕ) → a ≤ n → bit_and (bit_and a b) c ≡ bit_and a (bit_and b c)
-assoc_below zero a b c h = go a (omega arith)
-  where
-    go : (a : ℕ) → a ≡ 0 → bit_and (bit_and a b) c ≡ bit_and a (bit_and b c)
-    go zero e = rw (and_zero_l b, and_zero_l c, and_zero_l (bit_and b c))
-    go (suc a) e = absurd (omega arith)
-assoc_below (suc n) a b c h =
-    let r : bit_and (bit_and (a / 2) (b / 2)) (c / 2) ≡ bit_and (a / 2) (bit_and (b / 2) (c / 2)) = assoc_below n (a / 2) (b / 2) (c / 2) (omega arith) in
-    let x : bit_and (bit_and a b / 2) (c / 2) ≡ bit_and (a / 2) (bit_and b c / 2) = rw (and_half a b, and_half b c) r in
-    and_step (bit_and a b) c ∙ ap₂ (λ u v. u * 2 + v) x (omega (arith, and-odd a b, and-odd b c)) ∙ sym (and_step a (bit_and b c))
-
-pub and_assoc : (a b c : ℕ) → bit_and (bit_and a b) c ≡ bit_and a (bit_and b c)
-and_assoc a b c = assoc_below a a b c (omega arith)
 
 pub and_FF : (x : ℕ) → x < 256 → bit_and x 0xFF ≡ x
 and_FF x h = and_mask x 8 ∙ omega arith
@@ -39,7 +21,7 @@ overlaid_small (r ∷ rs) i = omega (arith, and_le_r (get_or r i 0xFF) (overlaid
 
 pub overlaid_more : (rs : List (List ℕ)) (r : List ℕ) (i : ℕ) → overlaid (rs ++ r ∷ []) i ≡ bit_and (overlaid rs i) (get_or r i 0xFF)
 overlaid_more [] r i = and_comm (get_or r i 0xFF) 0xFF
-overlaid_more (q ∷ rs) r i = ap (bit_and (get_or q i 0xFF)) (overlaid_more rs r i) ∙ sym (and_assoc (get_or q i 0xFF) (overlaid rs i) (get_or r i 0xFF))
+overlaid_more (q ∷ rs) r i = ap (bit_and (get_or q i 0xFF)) (overlaid_more rs r i) ∙ sym (and_assoc (get_or r i 0xFF) (get_or q i 0xFF) (overlaid rs i))
 
 pub all_e5_more : (rs : List (List ℕ)) (r : List ℕ) → all_e5 (rs ++ r ∷ []) ≡ all_e5 rs && is_e5 r
 all_e5_more [] r = go (is_e5 r)
@@ -66,16 +48,7 @@ is_e5-is (b ∷ d ∷ r) = rw (ne_eqb (length (b ∷ d ∷ r)) 1 (λ e. absurd (
 pub no_ack : (n : ℕ) (l : List ℕ) → 1 < length l → (n ≡ 1 → ⊥) → false ≡ is_e5 (take n l)
 no_ack n l h d = sym (is_e5-is (take n l) ∙ rw (ne_eqb (length (take n l)) 1 (λ e. d (omega (arith, length-take n l)))))
 
-pub first_ack : (n : ℕ) (l : List ℕ) → 1 < length l → n ≡ 1 → eqb (get_or l 0 0) 0xE5 ≡ is_e5 (take n l)
-first_ack n l h e = sym (is_e5-is (take n l) ∙ rw (eq-eqb (length (take n l)) 1 (omega (arith, length-take n l))) (ap (λ b. eqb b 0xE5) (get_or-take n l 0 0 (omega arith))))
-
 -- ---- the loop
-
--- within a list the default is not met
-pub get_d_within : (l : List ℕ) (i d e : ℕ) → i < length l → get_or l i d ≡ get_or l i e
-get_d_within [] i d e h = absurd (omega arith)
-get_d_within (x ∷ l) zero d e h = refl
-get_d_within (x ∷ l) (suc i) d e h = get_d_within l i d e (omega arith)
 
 module _ {old reply : List ℕ} where
   pub overlays_none : Overlays old reply 0 old
@@ -93,7 +66,7 @@ module _ {old reply : List ℕ} where
       go : (k : ℕ) → k < i + 1 → (b : Bool) → eqb k i ≡ b → get_or (set new i v) k 0xFF ≡ bit_and (get_or old k 0xFF) (get_or reply k 0xFF)
       go k b true f =
           rw (eqb-true k i f)
-          (get_or-set_same new i v 0xFF h ∙ e ∙ ap₂ bit_and (get_d_within new i 0 0xFF h ∙ o.left i (omega arith)) (get_d_within reply i 0 0xFF l))
+          (get_or-set_same new i v 0xFF h ∙ e ∙ ap₂ bit_and (get_or_default new i 0 0xFF h ∙ o.left i (omega arith)) (get_or_default reply i 0 0xFF l))
       go k b false f = let n = eqb-false k i f in get_or-set_other new i k v 0xFF n ∙ o.done k (omega (arith, n))
 
   pub overlays_whole : {i len : ℕ} {new : List ℕ} → Overlays old reply i new → i ≡ len → Overlays old reply len new

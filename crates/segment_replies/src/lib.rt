@@ -10,7 +10,8 @@ use meter_reply::Reply;
 // The places of the array that a reply stands in.
 pub const REPLY: usize = 96;
 
-// The replies so far: their bytewise AND, filled with FF, how many there are, whether all are E5, and how long the longest is.
+// The replies so far, in fixed memory as a reply: their bytewise AND, filled with FF, how many there are, whether all
+// are E5, and how long the longest is.
 #[derive(Clone, Copy)]
 pub struct Joining {
     pub bytes: [u8; REPLY],
@@ -25,7 +26,8 @@ fn is_ack(reply: Reply) -> bool
     reply.len == 1 && reply.bytes[0] == frame::ACK
 }
 
-// The AND with a reply, byte by byte.
+// The AND with a reply, byte by byte. By index: after `joined.iter_mut().zip(..)` a proof knows the length, and not the
+// bytes.
 fn overlay(joined: &mut [u8; REPLY], reply: Reply, len: usize)
     requires { len ≤ reply_most }
     ensures { length joined.old ≡ reply_most → Overlays joined.old reply.bytes len joined.new }

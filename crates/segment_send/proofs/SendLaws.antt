@@ -1,7 +1,7 @@
 -- What one whole telegram, sent to a segment at rest, does; and that no telegram changes an id.
 use mathlib.Core.Path.{◌≡◌, refl, sym, ap, ◌∙◌, subst}
 use mathlib.Core.Bool.{true, false, not}
-use mathlib.Core.List.{List, [], ◌∷◌, ◌++◌, map, append-nil, nil≢cons}
+use mathlib.Core.List.{List, [], ◌∷◌, ◌++◌, map, map-map, append-nil, nil≢cons}
 use Prim.Native.Nat.{ℕ, zero, suc, ◌≤◌, ◌<◌}
 use native.Mathlib.Omega.{arith}
 use lib.Ieee.{Float}
@@ -10,7 +10,7 @@ use borrow.Author.Tests.{le-ltb, ltb-false}
 use lib.ListN.{length, drop, length-drop}
 use lib.Seq.{drop-length}
 use Rattle.laws.specs.Words.{Bytes}
-use Rattle.laws.proofs.Lists.{if_all, if_with, map-map, map_same, every_all}
+use Rattle.laws.proofs.Lists.{if_all, if_with, map_same, every_all}
 use Rattle.frame.specs.Frame.{Telegram, ack, short, long, Why, Parsed, complete, incomplete, invalid, parse, encode}
 use Rattle.frame.proofs.RoundTrip.{parse-encode, parse_back}
 use Rattle.meter.specs.PlainMeter.{PlainMeter}

@@ -111,13 +111,6 @@ module _ {k : Clock} {bytes old : List ℕ} where
 -- ---- or every byte stays
 
 module _ {s : Plain} {n : ℕ} {old new : List ℕ} where
-  pub comes_done : Comes s n old (Ok tt) new → ComesOrStays s old (Ok tt) new
-  comes_done c = record { done = c.done; full = tt; stays = tt }
-
-  -- put back
-  pub comes_back : {why : QueueFull} → Comes s n old (Err why) new → ComesOrStays s old (Err why) old
-  comes_back c = record { done = tt; full = c.full; stays = refl }
-
   -- there is room
   pub comes_surely : (r : Result (Unit {0}) QueueFull) → Comes s n old r new → length (decode_image old).queue + 96 * n ≤ 4096 → ComesOrStays s old r new
   comes_surely (Ok done) c h = record { done = c.done; full = tt; stays = tt }

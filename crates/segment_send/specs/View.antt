@@ -1,6 +1,6 @@
 -- What the program's send answers, in the terms of the definitions.
-use Rattle.std.specs.Prelude.{◌≡◌, List, ℕ, Result, Ok, Err}
-use Rattle.laws.specs.Refusal.{not_refused, refused_piece, refused_clock, refused_queue}
+use Rattle.std.specs.Prelude.{◌≡◌, List, ℕ, Result}
+use Rattle.laws.specs.Refusal.{refused_piece, refused_clock, refused_queue, number_of_answer, count_of_answer}
 use Rattle.segment.specs.Calls.{Done}
 use Rattle.segment_image.specs.Answers.{DoneImage}
 use Rattle.segment_send.specs.Send.{due_after}
@@ -15,13 +15,11 @@ send_error_number QueueFull = refused_queue
 
 -- the number of what send answered. 0: accepted
 abbrev pub sending_number_value : Result ℕ SendError → ℕ
-sending_number_value (Ok n) = not_refused
-sending_number_value (Err refusal) = send_error_number refusal
+sending_number_value answer = number_of_answer send_error_number answer
 
 -- how many bytes it says are due
 abbrev pub sending_due_value : Result ℕ SendError → ℕ
-sending_due_value (Ok n) = n
-sending_due_value (Err refusal) = 0
+sending_due_value answer = count_of_answer answer
 
 -- the answer has the number of `want` and how many bytes are due after it, and the image means its segment
 pub record SentImage (want : Done) (number due : ℕ) (before after : List ℕ) : Type 0 where

@@ -12,6 +12,7 @@ ghost use Rattle.segment_send.specs.declared.SendError.TheVariants as variants;
 ghost use Rattle.segment_send.specs.View.{send_error_number, sending_number_value, sending_due_value, SentImage};
 
 use frame::ParseOutcome;
+use laws::answer::Numbered;
 use laws::refused;
 use segment_image::IMAGE;
 use segment_places::input::PIECE;
@@ -29,11 +30,10 @@ pub enum SendError {
     QueueFull,
 }
 
-impl SendError {
-    // Its number of the places of refusal.
-    pub fn number(self) -> u32
-        ensures { result ≡ send_error_number self }
-    {
+impl Numbered for SendError {
+    ghost number_of = { send_error_number };
+
+    fn number(self) -> u32 {
         match self {
             SendError::PieceTooLong => refused::PIECE,
             SendError::ClockOutOfRange => refused::CLOCK,
@@ -48,23 +48,6 @@ impl From<QueueFull> for SendError {
     fn from(_full: QueueFull) -> Self {
         Self::QueueFull
     }
-}
-
-// The number of what send answered, as C is told it.
-pub fn sending_number(answer: Result<u16, SendError>) -> u32
-    ensures { result ≡ sending_number_value answer }
-{
-    match answer {
-        Ok(_) => refused::NOT_REFUSED,
-        Err(refusal) => refusal.number(),
-    }
-}
-
-// How many bytes are due; of a refused send none.
-pub fn sending_due(answer: Result<u16, SendError>) -> u16
-    ensures { result ≡ sending_due_value answer }
-{
-    answer.unwrap_or(0)
 }
 
 // How many bytes are due of an incomplete telegram.

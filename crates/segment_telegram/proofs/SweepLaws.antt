@@ -10,7 +10,7 @@ use lib.Dec.{ltb}
 use lib.ListN.{length, take, drop, set, get_or, replicate, length-append, length-map, length-take, length-drop}
 use lib.Seq.{take-suc, take-length, drop-length, set-get_or}
 use Rattle.laws.specs.Sweep.{swept}
-use Rattle.laws.proofs.Lists.{map-map}
+use mathlib.Core.List.{map-map}
 use Rattle.laws.proofs.Sweep.{get_d_swept, set_swept}
 use Rattle.frame.specs.Frame.{Telegram}
 use Rattle.time_seconds.specs.Seconds.{elapsed_of_value}

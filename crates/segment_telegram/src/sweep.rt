@@ -13,34 +13,25 @@ ghost use Rattle.segment_telegram.specs.ProgramSweep.{concerns_meter, Skips, Met
 
 use frame::Frame;
 use meter_concern::Seeking;
-use meter_step::Answer;
+use meter_step::{Answer, Heard};
 use segment_image::{IMAGE, METER, METERS_AT};
 use segment_places::{head, meters};
 use segment_replies::Joining;
 use time_clock::Clock;
 
-// Whether the meter at the place i is one of those sought: its first bytes and its selection tell.
+// Whether the meter at the place i is one of those sought: its first eight bytes, as one number, and its selection tell.
 fn is_sought(q: Seeking, image: &[u8; IMAGE], i: usize) -> bool
     requires { i < 64 }
     ensures { (t : Telegram) → Seeks (concerns_by t) q → result ≡ concerns_meter t (meter_in i image.now) }
 {
     let p = METERS_AT + METER * i;
-    let selected = image[p + 16] != 0;
-    meter_concern::is_sought(
-        q,
-        image[p],
-        image[p + 1],
-        image[p + 2],
-        image[p + 3],
-        image[p + 4],
-        image[p + 5],
-        image[p + 6],
-        image[p + 7],
-        selected,
-    )
+    let mut first = [0; 8];
+    first.copy_from_slice(&image[p..p + 8]);
+    q.seeks(u64::from_le_bytes(first), image[p + 16] != 0)
 }
 
-// The first place from `from` on whose meter is sought, before the end.
+// The first place from `from` on whose meter is sought, before the end. By a loop, whose invariant is what the clause says of
+// the places passed by.
 fn next_sought(q: Seeking, image: &[u8; IMAGE], from: usize, end: usize) -> Option<usize>
     requires { (from ≤ end) × (end ≤ 64) }
     ensures skips { Skips q image.now from end (unwrap_or result end) }
@@ -54,7 +45,7 @@ fn next_sought(q: Seeking, image: &[u8; IMAGE], from: usize, end: usize) -> Opti
     None
 }
 
-// Worked out where it is needed, so that a telegram that asks for no readout does not pay for it.
+// Worked out where a readout needs it, and in no other telegram.
 fn elapsed_of(image: &[u8; IMAGE], clock: Clock) -> f64
     ensures { result ≡ elapsed_of_value clock.now (decode_image image.now).origin }
 {
@@ -74,20 +65,19 @@ fn step(
     ensures { MeterHears (hear bus (telegram_of frame.entry) (elapsed_of_value clock.now (decode_image image.old).origin) clock) i image.old joining.old image.new joining.new }
 {
     let m = meters::meter_at(image, i);
-    let h = meter_step::hear(m, bus, frame);
-    let n = h.meter;
-    let answer = h.answer;
-    meters::put_meter(image, i, n);
+    let Heard { meter, answer } = meter_step::hear(m, bus, frame);
+    meters::put_meter(image, i, meter);
     match answer {
         Answer::Silent => {}
         Answer::Ack => joining.join_ack(),
         Answer::Readout => {
-            joining.join(meter_reply::readout(n, elapsed_of(image, clock), clock))
+            joining.join(meter_reply::readout(meter, elapsed_of(image, clock), clock))
         }
     }
 }
 
-// Every meter that the telegram concerns hears it; the others need no step. Their replies, joined.
+// Every meter that the telegram concerns hears it; the others need no step, and are passed by in a loop of their own
+// (`next_sought`). Their replies, joined.
 pub(crate) fn sweep(image: &mut [u8; IMAGE], frame: Frame<'_>, clock: Clock) -> Joining
     ensures { Sweeps (telegram_of frame.entry) clock image.old image.new result }
 {

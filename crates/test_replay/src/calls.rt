@@ -2,10 +2,14 @@
 // the status is 0 all the same: what is written shows it.
 use crate::hex::Hex;
 use crate::show;
+use laws::answer;
+use laws::answer::Numbered;
+use search::{EntryRecord, search};
+use segment::METERS;
 use segment_image::IMAGE;
 use time_clock::Clock;
 
-// The number and the index of 01.
+// The number of the refusal, and the record's index.
 pub(crate) fn open(
     rt: &impl Print,
     image: &mut [u8; IMAGE],
@@ -15,7 +19,7 @@ pub(crate) fn open(
     origin: f64,
 ) {
     let answer = segment_calls::open(image, list, baud, practice, origin);
-    let number = list_check::refusal::refusal_number(answer);
+    let number = answer::number(answer);
     let index = list_check::refusal::refusal_index(answer);
     let _ = println!(rt; "open {number} {index}");
 }
@@ -40,7 +44,7 @@ pub(crate) fn open_builtin(
 
 pub(crate) fn send(rt: &impl Print, image: &mut [u8; IMAGE], clock: Clock, piece: &[u8]) {
     let answer = segment_send::send(image, piece, clock);
-    let number = segment_send::sending_number(answer);
+    let number = answer::number(answer);
     let _ = println!(rt; "send {number}");
 }
 
@@ -59,11 +63,11 @@ pub(crate) fn clear(rt: &impl Print, image: &mut [u8; IMAGE]) {
 
 pub(crate) fn set_baud(rt: &impl Print, image: &mut [u8; IMAGE], baud: u32) {
     let answer = segment_calls::set_baud(image, baud);
-    let number = segment_calls::changing_number(answer);
+    let number = answer::number(answer);
     let _ = println!(rt; "baud {number}");
 }
 
-// A line for each entry follows.
+// A line for each entry follows; at most as many entries are lent as a segment has meters.
 pub(crate) fn find(
     rt: &impl Print,
     image: &mut [u8; IMAGE],
@@ -71,11 +75,12 @@ pub(crate) fn find(
     allowance: u32,
     lent: usize,
 ) {
-    match search::search_listed(image, clock, allowance, lent) {
+    let mut records = [EntryRecord::default(); METERS];
+    match search(image, clock, allowance, &mut records[..lent.min(METERS)]) {
         Ok(found) => {
             let spent = u8::from(found.spent);
             let _ = println!(rt; "search 0 {} {} {spent}", found.count, found.probes);
-            for e in &found.entries[..found.count.min(segment::METERS)] {
+            for e in &records[..found.count.min(METERS)] {
                 show::entry(rt, e);
             }
         }
@@ -86,15 +91,15 @@ pub(crate) fn find(
     }
 }
 
-// As many bytes as the list of a segment can have.
+// As many bytes as the list of a segment can have: 3, and 46 for each meter.
 const LIST: usize = 2947;
 
 // The bytes written, in hexadecimal; at most as many are lent as a list can have.
 pub(crate) fn export(rt: &impl Print, image: &[u8; IMAGE], lent: usize) {
     let mut bytes = [0u8; LIST];
     let answer = segment_export::export(image, &mut bytes[..lent.min(LIST)]);
-    let number = segment_export::exporting_number(answer);
-    let count = usize::from(segment_export::exporting_count(answer));
+    let number = answer::number(answer);
+    let count = usize::from(answer::count(answer));
     let written = Hex::<2>(&bytes[..count.min(LIST)]);
     let _ = println!(rt; "export {number} {count} {written}");
 }

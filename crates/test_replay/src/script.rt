@@ -25,7 +25,7 @@ pub(crate) enum Command<'a> {
         allowance: u32,
         lent: usize,
     },
-    // by the number of the list
+    // by the number of the list, of which others than 0 to 3 are ignored
     Builtin {
         number: u8,
         baud: u32,
@@ -36,8 +36,8 @@ pub(crate) enum Command<'a> {
     Export(usize),
 }
 
-// What is left of a script. Its commands end at its end, at a byte that names no command, and at a command that is cut
-// off.
+// What is left of a script. Each step of the reader promises that no more is left after it. Its commands end at its end,
+// at a byte that names no command, and at a command that is cut off.
 #[derive(Drop)]
 pub(crate) struct Script<'a>(pub(crate) &'a [u8]);
 
@@ -50,6 +50,7 @@ impl<'a> Script<'a> {
         Some(*front)
     }
 
+    // A number of each width: a trait for the four would be longer.
     fn byte(&mut self) -> Option<u8>
         ensures { length self.new.0.now ≤ length self.old.0.now }
     {

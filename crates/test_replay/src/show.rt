@@ -4,6 +4,7 @@ use meter::Meter;
 use search::EntryRecord;
 use segment::Segment;
 
+// The last FCB as its number in the text: no impl of `From` may lie between types that are both std's.
 fn last_number(last: Option<bool>) -> u8 {
     match last {
         None => 0,
@@ -12,6 +13,7 @@ fn last_number(last: Option<bool>) -> u8 {
     }
 }
 
+// By a function and no `Display`, which another crate's type can't be given.
 fn meter(rt: &impl Print, m: &Meter) {
     let built = m.built;
     let state = m.state;
@@ -22,8 +24,8 @@ fn meter(rt: &impl Print, m: &Meter) {
         built.manufacturer,
         built.version,
         built.medium,
-        built.model as u8,
-        built.fault as u8,
+        u8::from(built.model),
+        u8::from(built.fault),
         state.access,
         state.baud,
         u8::from(state.selected),

@@ -1,14 +1,14 @@
 -- Whatever a telegram does to a segment, its bus baud and its meters stay sound.
 use mathlib.Core.Path.{◌≡◌, refl, ap, ◌∙◌}
-use mathlib.Core.Bool.{true, or-true}
+use mathlib.Core.Bool.{true}
 use mathlib.Core.List.{List, [], ◌∷◌, map}
-use Prim.Native.Nat.{ℕ, zero, suc, ◌<◌}
-use native.Mathlib.Nat.{le_of_suc-le-suc, not-suc-le-zero}
+use Prim.Native.Nat.{ℕ}
 use native.Mathlib.Omega.{arith}
 use lib.Ieee.{Float}
 use lib.Dec.{eqb}
 use borrow.Author.Tests.{eq-eqb}
-use lib.ListN.{length, get_or, length-map}
+use lib.ListN.{get_or, length-map}
+use Rattle.std.proofs.lemmas.List.Recursion.{or_at}
 use Rattle.laws.proofs.Lists.{every_map, every_image}
 use Rattle.frame.specs.Frame.{Telegram}
 use Rattle.time_seconds.specs.Seconds.{elapsed_of_value}
@@ -26,14 +26,17 @@ use Rattle.theorem_as_left.proofs.OpeningSound.{SoundAt}
 
 -- ---- a meter's baud
 
-rate_at : (rs : List ℕ) (i : ℕ) → i < length rs → is_rate_value rs (get_or rs i 0) ≡ true
-rate_at [] i h = absurd (not-suc-le-zero h)
-rate_at (r ∷ rs) zero h = rw (eq-eqb r r refl)
-rate_at (r ∷ rs) (suc i) h = rw (rate_at rs i (le_of_suc-le-suc h)) (or-true (eqb r (get_or rs i 0)))
-
 rate_closed : (t : Telegram) → Closed t (λ m. is_rate_value rates m.baud ≡ true)
 unfolding asked
-rate_closed t = record { primary = λ m h. h; baud = λ m i l q h. rate_at rates i l; selected = λ m s h. h; hearing = λ m b h. h; reset = λ m h. h; asked = λ m fcb h. h }
+rate_closed t =
+    record {
+      primary = λ m h. h;
+      baud = λ m i l q h. let b = get_or rates i 0 in or_at (λ rs. is_rate_value rs b) (λ r. eqb r b) refl (λ r rs. refl) rates i 0 l (eq-eqb b b refl);
+      selected = λ m s h. h;
+      hearing = λ m b h. h;
+      reset = λ m h. h;
+      asked = λ m fcb h. h;
+    }
 
 -- ---- the rest of it never changes
 

@@ -1,1 +1,2 @@
+// What holds of an export of every segment that calls leave (specs/). There is no program code here.
 #![tactic(auto)]

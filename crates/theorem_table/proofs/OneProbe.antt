@@ -9,6 +9,7 @@ use lib.Dec.{eqb}
 use lib.Ieee.{Float}
 use lib.ListN.{length, length-map}
 use borrow.Author.Tests.{lt-leb}
+use Rattle.search_walk.proofs.ProbeLaws.{mask_one}
 use Rattle.laws.specs.Words.{keep}
 use Rattle.laws.proofs.Lists.{every_all, keep_fewer, and_l}
 use Rattle.frame.specs.Frame.{encode}
@@ -24,7 +25,7 @@ use Rattle.segment.specs.Plain.{Plain}
 use Rattle.segment.specs.Calls.{Done, accepted}
 use Rattle.segment_replies.specs.Replies.{joined}
 use Rattle.segment_replies.proofs.JoinLaws.{joined_acks, count_acks}
-use Rattle.segment_telegram.specs.Handled.{replies, to_broadcast_value}
+use Rattle.segment_telegram.specs.Handled.{replies}
 use Rattle.segment_telegram.proofs.RepliesLaws.{replies-keep}
 use Rattle.segment_send.specs.Send.{send}
 use Rattle.segment_send.proofs.SendLaws.{at_rest_value, sent_to, after_sent, send-rest}
@@ -49,16 +50,12 @@ module _ (k : Clock) (b : ℕ) (o : Float) (p : List ℕ) (ms : List PlainMeter)
       ap joined (replies-keep (hear b (mask p) (elapsed_of_value k.now o) k) answers (λ m. E5) ms (every_all (λ m. probed_reply b (elapsed_of_value k.now o) k m (mask_data p)) ms))
       ∙ joined_acks (keep answers ms)
 
-  to_one : to_broadcast_value (mask p) ≡ false
-  unfolding mask
-  to_one = refl
-
   module _ (good : good_clock_value k ≡ true) (few : length (keep (at_bus b) ms) ≤ 1) where
     at_most_one : length (keep answers ms) ≤ 1
     at_most_one = omega (arith, keep_fewer answers (at_bus b) ms (every_all (λ m h. and_l (at_bus b m) (matches (mask_data p) m && hears m) h) ms))
 
     sent : send (encode (mask p)) k (at_rest_value b o ms) ≡ accepted (after_sent k b o ms (mask p))
-    sent = send-rest k b o ms (mask p) good (mask_short p) to_one (rw acks (omega (arith, length-map {B = ℕ} (keep answers ms) (λ m. 0xE5), at_most_one)))
+    sent = send-rest k b o ms (mask p) good (mask_short p) (mask_one p) (rw acks (omega (arith, length-map {B = ℕ} (keep answers ms) (λ m. 0xE5), at_most_one)))
 
     heard_once : (probe k p (at_rest_value b o ms)).0 ≤ 1
     unfolding probe ask

@@ -1,4 +1,4 @@
-// How dates and times are written into bytes.
+// How dates and times are written into bytes. Year, month and day are numbers of their own: most dates here are fixed.
 #![tactic(auto)]
 
 ghost use Rattle.std.specs.Prelude.{◌≡◌};

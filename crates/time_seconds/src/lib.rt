@@ -11,7 +11,8 @@ use std::num::{
     f64_from_bits_with_nan, f64_to_bits_with_nan, saturating_f64_to_u32, saturating_f64_to_u64,
 };
 
-// The whole seconds of t.
+// The whole seconds of t, as a `u64` and as a `u32`. The two differ in std's function and in the type, and std has no trait
+// for such casts: one generic function would need a trait of our own with an impl for each type, which repeats these lines.
 #[tactic(auto, using(crate::proofs::Worked::as_u64))]
 pub fn whole_u64(t: f64) -> u64
     ensures { result ≡ whole last64 t }

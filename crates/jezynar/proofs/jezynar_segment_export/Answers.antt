@@ -15,4 +15,4 @@ exported_as {lent = lent} {n} {m} {r} f h e =
     ap₂ (λ (x : ℕ) (y : ℕ). exported_by x y lent) p q ∙ e
 
 pub returns : goal.returns
-returns c = exported_as c.packed_exported.ensures.0 c.packed_exported.ensures.1 c.export-answer.ensures
+returns c = exported_as c.packed_count.ensures.0 c.packed_count.ensures.1 c.export-answer.ensures

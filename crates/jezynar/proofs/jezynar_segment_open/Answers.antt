@@ -3,7 +3,7 @@ use native.Mathlib.Omega.{arith}
 use mathlib.Core.Path.{◌≡◌, sym, ◌∙◌}
 use Prim.Native.Nat.{◌/◌, ◌%◌}
 use Rattle.list_check.specs.Refusals.{refusal_number_value, refusal_index_value}
-use Rattle.jezynar.proofs.ImageLaws.{opening_index, number_small}
+use Rattle.jezynar.proofs.ImageLaws.{opening_index}
 use Rattle.jezynar.proofs.jezynar_segment_open.Goals as goal
 
 pub packed-requires : goal.packed-requires
@@ -15,8 +15,8 @@ pub returns : goal.returns
 returns c =
     let r = c.open-answer.result in
     let o = c.open-answer.ensures in
-    let e = c.packed.ensures in
-    let small = number_small r in
+    let e = c.packed.ensures.0 in
+    let small = c.packed.ensures.1 in
     let n : refusal_number_value r ≡ c.packed.result % 256 = omega (arith, e, small) in
     let i : refusal_index_value r ≡ c.packed.result / 256 = omega (arith, e, small) in
     record {

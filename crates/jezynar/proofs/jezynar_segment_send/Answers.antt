@@ -20,4 +20,4 @@ sent_at {j} {k} piece {image} {image₁} {n} {m} {r} e f h d =
 
 pub returns : goal.returns
 returns c =
-    sent_at c.args.piece.now c.clock_at-at.ensures c.packed_sent.ensures.0 c.packed_sent.ensures.1 c.send-answer.ensures
+    sent_at c.args.piece.now c.clock_at-at.ensures c.packed_count.ensures.0 c.packed_count.ensures.1 c.send-answer.ensures

@@ -8,4 +8,4 @@ use Rattle.jezynar.proofs.jezynar_segment_set_baud.Goals as goal
 pub returns : goal.returns
 returns c =
     let a = c.args in
-    subst (λ n. DoneImage (change_baud a.baud (decode_image a.image.now)) n a.image.now c.set_baud-answer.new.image) (sym c.changing_number.ensures) c.set_baud-answer.ensures
+    subst (λ n. DoneImage (change_baud a.baud (decode_image a.image.now)) n a.image.now c.set_baud-answer.new.image) (sym c.number.ensures.0) c.set_baud-answer.ensures

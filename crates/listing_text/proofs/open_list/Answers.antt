@@ -5,7 +5,7 @@ use lib.Ieee.{of_bits}
 use Rattle.segment_image.specs.Image.{IsImage}
 use lib.ListN.{take}
 use lib.Seq.{length-take-le}
-use Rattle.laws.proofs.Copying.{take_min}
+use Rattle.std.proofs.lemmas.List.{take_min}
 use Rattle.listing_text.specs.Listing.{list_in}
 use Rattle.listing_text.proofs.ListingLaws.{opens_site}
 use Rattle.listing_text.proofs.open_list.Goals as goal

@@ -8,6 +8,6 @@ pub returns : goal.returns
 unfolding heat_second_value little type_g_value
 returns c =
     both c.put.ensures.bytes
-    (both (value_as c.le4.ensures c.put_record.ensures.bytes)
+    (both (value_as c.to_le_bytes.ensures c.put_record.ensures.bytes)
     (both c.put-2.ensures.bytes
     (both (value_as c.type_g.ensures c.put_record-2.ensures.bytes) c.put_record-3.ensures.bytes)))

@@ -1,16 +1,16 @@
 -- `segment_export::any_above_250` meets its contract.
+use borrow.Author.Rules.{rules}
+use borrow.Author.Tests.{tests}
+use mathlib.Core.Path.{refl, ◌∙◌}
 use native.Mathlib.Omega.{arith}
-use Rattle.segment_export.proofs.HighLaws.{looked_none, looked_found, looked_more, looked_all}
+use lib.Dec.{ltb}
+use Rattle.std.proofs.lemmas.Iterator.{YieldsList-from_range}
+use Rattle.std.proofs.lemmas.Iterator.Search.{any_from_yields_List}
+use Rattle.segment_places.specs.ProgramBecomes.{meter_in}
+use Rattle.segment_export.proofs.HighLaws.{above_in}
 use Rattle.segment_export.proofs.any_above_250.Goals as goal
 
-pub loop-i-init : goal.loop-i-init
-loop-i-init c = looked_none _
-
-pub returns-then-m-gt250 : goal.returns-then-m-gt250
-returns-then-m-gt250 c = looked_found c.loop-i.invariant c.meter_at-m.result (omega arith) c.meter_at-m.ensures (omega arith)
-
-pub loop-i-preserved : goal.loop-i-preserved
-loop-i-preserved c = looked_more c.loop-i.invariant c.meter_at-m.result (omega arith) c.meter_at-m.ensures (omega arith)
-
 pub returns : goal.returns
-returns c = looked_all c.loop-i.invariant (omega arith)
+returns c =
+    any_from_yields_List (λ i. ltb 250 (meter_in i c.args.image.now).primary) _ _ _ c.any.ensures.ran (YieldsList-from_range 0 c.count_of.result c.count_of.result refl (omega arith)) (λ x b q k. search (rules, tests))
+    ∙ above_in c.args.image.now c.count_of.result c.count_of.ensures

@@ -1,16 +1,18 @@
 -- `segment_image::write_parts` meets its contract.
-use mathlib.Core.Path.{◌≡◌, ap, ◌∙◌}
+use mathlib.Core.Path.{◌≡◌, sym, ap, ap₂, ◌∙◌}
 use mathlib.Core.List.{List, ◌++◌, map}
 use Prim.Native.Nat.{ℕ, ◌-◌, ◌*◌}
 use native.Mathlib.Omega.{arith}
-use lib.ListN.{length, take, drop, replicate}
+use lib.ListN.{length, take, drop, replicate, length-take}
+use lib.Seq.{paste, length-take-le}
 use Rattle.laws.specs.Words.{each}
-use Rattle.laws.proofs.Lists.{take_rest}
+use Rattle.std.proofs.lemmas.List.{take_rest}
 use Rattle.laws.proofs.Sweep.{length_mapped}
 use Rattle.meter.specs.View.{plain_meter}
 use Rattle.segment_image.specs.MeterBytes.{encode_meter}
 use Rattle.list_open.specs.Opening.{capacity}
-use Rattle.segment_image.proofs.Blocks.{nothing_left, length_rest}
+use Rattle.segment_image.specs.Image.{meters}
+use Rattle.segment_image.proofs.Blocks.{nothing_left, length_rest, paste_part}
 use Rattle.segment_image.proofs.Whole.{Copies, copies}
 use Rattle.segment_image.proofs.Exact.{exact}
 use borrow.Author.Rules.{rules}
@@ -18,8 +20,10 @@ use Rattle.segment_image.proofs.write_parts.Goals as goal
 
 pub write_meters-requires : goal.write_meters-requires
 unfolding capacity
-write_meters-requires c =
-    (length_rest 4374 (25 * capacity) c.copy-3.new.to (omega (arith, c.requires.0, c.copy.auto.to, c.copy-2.auto.to, c.copy-3.auto.to)), omega (arith, c.min-count.ensures))
+write_meters-requires c = (
+  length_rest 4374 (25 * capacity) c.copy-3.new.to (omega (arith, c.requires.0, c.copy.auto.to, c.copy-2.auto.to, c.copy-3.auto.to)),
+  simp length-take (omega (arith, c.min-count.ensures)),
+)
 
 pub returns : goal.returns
 unfolding capacity
@@ -32,6 +36,7 @@ returns c =
     let long = c.requires.0 in
     let wrote = c.write_meters.ensures in
     let n = c.min-count.result in
+    let few : length (take n c.args.s.meters) ≡ n = length-take-le n c.args.s.meters (omega (arith, c.min-count.ensures, long_meters)) in
     let made : Copies c.args.s _ _ _ _ c.args.bs.now _ _ l₃ _ =
     record {
       count_is = c.min-count.ensures;
@@ -44,12 +49,12 @@ returns c =
       head_long = long_head;
       head_bytes = c.head_bytes-head.ensures.0;
       head-is = c.head_bytes-head.ensures.1;
-      first = c.copy.ensures;
-      second = c.copy-2.ensures;
-      third = c.copy-3.ensures;
+      first = c.copy.ensures ∙ ap (paste c.args.bs.now 0 c.head_bytes-head.result) long_head;
+      second = c.copy-2.ensures ∙ paste_part c.copy.new.to c.args.s.input 18 c.min-waiting.result (omega (arith, c.min-waiting.ensures, long_input));
+      third = c.copy-3.ensures ∙ paste_part c.copy-2.new.to c.args.s.queue 278 c.min-queued.result (omega (arith, c.min-queued.ensures, long_queue));
       ms_long = c.write_meters.auto.bs ∙ length_rest 4374 (25 * capacity) l₃ (omega (arith, long, c.copy.auto.to, c.copy-2.auto.to, c.copy-3.auto.to));
-      rows_are = wrote.0 ∙ ap (λ (l : List ℕ). each (map plain_meter (take n c.args.s.meters)) encode_meter ++ drop (25 * n) l) (take_rest l₃ 4374);
-      last = wrote.1;
+      rows_are = wrote.0 ∙ ap₂ (λ (k : ℕ) (l : List ℕ). each (map plain_meter (take n c.args.s.meters)) encode_meter ++ drop (25 * k) l) few (take_rest l₃ 4374);
+      last = ap (λ (k : ℕ). meters k c.write_meters.new.bs) (sym few) ∙ wrote.1;
     } in
     let end = drop (length l₃ - 4374) (drop 4374 l₃) in
     record {

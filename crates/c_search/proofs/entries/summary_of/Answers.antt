@@ -1,18 +1,14 @@
 -- `c_search::entries::summary_of` meets its contract.
-use mathlib.Core.Path.{ap, ◌∙◌}
-use mathlib.Core.List.{List, [], ◌++◌, append-nil}
-use Prim.Native.Nat.{ℕ}
-use Rattle.numbers.specs.Values.{little}
-use Rattle.laws.proofs.Lists.{blocks_before}
-use Rattle.c_search.proofs.SearchLaws.{bit_is}
+use mathlib.Core.Path.{refl, ap, ◌∙◌}
 use borrow.Author.Rules.{rules}
+use Rattle.std.proofs.Common.{w32, w64}
+use Rattle.laws.proofs.Lists.{bit_from}
+use Rattle.numbers.specs.Values.{little}
+use Rattle.numbers.proofs.LeBytes.{little_bytes}
 use Rattle.c_search.proofs.entries.summary_of.Goals as goal
 
 pub returns : goal.returns
+unfolding little
 returns c =
     let a = c.args in
-    blocks_before c.le4-c.result c.le4-p.result c.le4-s.result (search rules) (search rules) (search rules) []
-    ∙ append-nil (c.le4-c.result ++ c.le4-p.result ++ c.le4-s.result)
-    ∙ ap (λ (x : List ℕ). x ++ c.le4-p.result ++ c.le4-s.result) c.le4-c.ensures
-    ∙ ap (λ (x : List ℕ). little 4 a.count ++ x ++ c.le4-s.result) (c.le4-p.ensures ∙ ap (little 4) c.from.ensures)
-    ∙ ap (λ (x : List ℕ). little 4 a.count ++ little 4 a.probes ++ x) (c.le4-s.ensures ∙ ap (little 4) (c.from-2.ensures ∙ bit_is a.spent))
+    rw (c.to_le_bytes-c.ensures ∙ little_bytes w64 a.count, c.to_le_bytes-p.ensures ∙ little_bytes w32 a.probes, c.to_le_bytes-s.ensures ∙ little_bytes w32 c.from.result ∙ ap (little 4) (c.from.ensures ∙ bit_from a.spent)) refl

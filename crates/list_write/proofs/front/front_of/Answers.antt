@@ -5,7 +5,7 @@ use lib.ListN.{get_or}
 use Rattle.meter_identity.specs.Identity.{digits_of_value}
 use Rattle.list_write.specs.Record.{record_for}
 use Rattle.list_write.specs.ProgramRecord.{front_of_value}
-use Rattle.list_write.proofs.RestLaws.{and_then}
+use Rattle.meter_identity.proofs.IdentityLaws.{list_same}
 use Rattle.list_write.proofs.front.front_of.Goals as goal
 
 pub returns : goal.returns
@@ -13,17 +13,17 @@ unfolding front_of_value record_for digits_of_value
 returns c =
     let own = c.own_baud.ensures in
     let e = c.to_be_bytes.ensures in
-    and_then refl (and_then refl
-    (and_then (ap (λ l. get_or l 0 0) e ∙ ap (λ b. b / 0x1000000 % 256) own)
-    (and_then (ap (λ l. get_or l 1 0) e ∙ ap (λ b. b / 0x10000 % 256) own)
-    (and_then (ap (λ l. get_or l 2 0) e ∙ ap (λ b. b / 0x100 % 256) own)
-    (and_then (ap (λ l. get_or l 3 0) e ∙ ap (λ b. b % 256) own)
-    (and_then refl
-    (and_then c.digit.ensures
-    (and_then c.digit-2.ensures
-    (and_then c.digit-3.ensures
-    (and_then c.digit-4.ensures
-    (and_then c.digit-5.ensures
-    (and_then c.digit-6.ensures
-    (and_then c.digit-7.ensures
-    (and_then c.digit-8.ensures refl))))))))))))))
+    list_same refl (list_same refl
+    (list_same (ap (λ l. get_or l 0 0) e ∙ ap (λ b. b / 0x1000000 % 256) own)
+    (list_same (ap (λ l. get_or l 1 0) e ∙ ap (λ b. b / 0x10000 % 256) own)
+    (list_same (ap (λ l. get_or l 2 0) e ∙ ap (λ b. b / 0x100 % 256) own)
+    (list_same (ap (λ l. get_or l 3 0) e ∙ ap (λ b. b % 256) own)
+    (list_same refl
+    (list_same c.digit.ensures
+    (list_same c.digit-2.ensures
+    (list_same c.digit-3.ensures
+    (list_same c.digit-4.ensures
+    (list_same c.digit-5.ensures
+    (list_same c.digit-6.ensures
+    (list_same c.digit-7.ensures
+    (list_same c.digit-8.ensures refl))))))))))))))

@@ -1,5 +1,5 @@
 use mathlib.Core.Path.{◌∙◌}
-use Rattle.segment_image.proofs.MeterByteLaws.{flag_is}
+use Rattle.laws.proofs.Lists.{bit_from}
 use Rattle.meter.specs.View.{plain_meter}
 use Rattle.search.proofs.PackLaws.{mark_here, mark_away, meter_bounded}
 use borrow.Author.Rules.{rules}
@@ -13,6 +13,6 @@ returns-then-m-bus c =
 pub returns : goal.returns
 returns c =
     let m = c.args.m in (
-      mark_here c.args.bus (plain_meter m) c.if-m-bus.false _ _ _ _ _ (c.from.ensures ∙ flag_is m.state.selected) (c.from-2.ensures ∙ flag_is m.state.hearing) c.fault_bits.ensures.0 c.from-3.ensures c.from-4.ensures,
+      mark_here c.args.bus (plain_meter m) c.if-m-bus.false _ _ _ _ _ (c.from.ensures ∙ bit_from m.state.selected) (c.from-2.ensures ∙ bit_from m.state.hearing) c.fault_bits.ensures.0 c.from-3.ensures c.from-4.ensures,
       meter_bounded m (search rules) (search rules) (search rules),
     )

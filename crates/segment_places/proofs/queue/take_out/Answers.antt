@@ -1,7 +1,7 @@
 use mathlib.Core.Path.{ap, ◌∙◌}
 use Prim.Native.Nat.{min}
 use lib.ListN.{drop}
-use Rattle.laws.proofs.Copying.{drop_min}
+use Rattle.std.proofs.lemmas.List.{drop_min}
 use Rattle.segment.specs.Plain.{with_queue}
 use Rattle.segment_image.specs.Image.{decode_image}
 use Rattle.segment_places.proofs.Becoming.{becomes_as}

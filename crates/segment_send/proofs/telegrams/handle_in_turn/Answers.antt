@@ -5,7 +5,7 @@ use native.Mathlib.Omega.{arith}
 use lib.ListN.{length, take, drop, length-drop}
 use lib.Seq.{take_all}
 use Rattle.std.proofs.lemmas.Result.{err_from_is_err_and}
-use Rattle.laws.proofs.Lists.{take_rest}
+use Rattle.std.proofs.lemmas.List.{take_rest}
 use Rattle.frame.specs.Frame.{Telegram, complete, parse}
 use Rattle.frame.specs.View.{telegram_of, why_of}
 use Rattle.frame.proofs.Waiting.{waiting_short}

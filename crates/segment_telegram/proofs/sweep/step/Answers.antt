@@ -27,10 +27,10 @@ pub returns-in-Silent : goal.returns-in-Silent
 returns-in-Silent c =
     let a = c.args in
     let l = a.image.now in
-    let h = c.hear-h.result in
+    let h = c.hear-answer.result in
     let since = elapsed_of_value a.clock.now (decode_image l).origin in
     let way : PlainMeter → Heard = hear a.bus (telegram_of a.frame) since a.clock in
-    let heard : heard_of since a.clock h ≡ way (meter_in a.i l) = c.hear-h.ensures since a.clock ∙ ap way c.meter_at-m.ensures in
+    let heard : heard_of since a.clock h ≡ way (meter_in a.i l) = c.hear-answer.ensures since a.clock ∙ ap way c.meter_at-m.ensures in
     let said = ap (λ x. with_reply (reply_of x since a.clock (plain_meter h.meter)) []) (sym c.in-Silent.is) ∙ ap (λ x. replies (x ∷ [])) heard in
     record { becomes = changed way a.i l _ _ heard c.put_meter.ensures; joins = λ rs j. joins_as rs said (joins_still rs j) }
 
@@ -38,10 +38,10 @@ pub returns-in-Ack : goal.returns-in-Ack
 returns-in-Ack c =
     let a = c.args in
     let l = a.image.now in
-    let h = c.hear-h.result in
+    let h = c.hear-answer.result in
     let since = elapsed_of_value a.clock.now (decode_image l).origin in
     let way : PlainMeter → Heard = hear a.bus (telegram_of a.frame) since a.clock in
-    let heard : heard_of since a.clock h ≡ way (meter_in a.i l) = c.hear-h.ensures since a.clock ∙ ap way c.meter_at-m.ensures in
+    let heard : heard_of since a.clock h ≡ way (meter_in a.i l) = c.hear-answer.ensures since a.clock ∙ ap way c.meter_at-m.ensures in
     let said = ap (λ x. with_reply (reply_of x since a.clock (plain_meter h.meter)) []) (sym c.in-Ack.is) ∙ ap (λ x. replies (x ∷ [])) heard in
     record { becomes = changed way a.i l _ _ heard c.put_meter.ensures; joins = λ rs j. joins_as rs said (joins_acked c.requires j c.join_ack.ensures) }
 
@@ -49,10 +49,10 @@ pub returns-in-Readout : goal.returns-in-Readout
 returns-in-Readout c =
     let a = c.args in
     let l = a.image.now in
-    let h = c.hear-h.result in
+    let h = c.hear-answer.result in
     let since = elapsed_of_value a.clock.now (decode_image l).origin in
     let way : PlainMeter → Heard = hear a.bus (telegram_of a.frame) since a.clock in
-    let heard : heard_of since a.clock h ≡ way (meter_in a.i l) = c.hear-h.ensures since a.clock ∙ ap way c.meter_at-m.ensures in
+    let heard : heard_of since a.clock h ≡ way (meter_in a.i l) = c.hear-answer.ensures since a.clock ∙ ap way c.meter_at-m.ensures in
     let said = ap (λ x. with_reply (reply_of x since a.clock (plain_meter h.meter)) []) (sym c.in-Readout.is) ∙ ap (λ x. replies (x ∷ [])) heard in
     let then = c.elapsed_of.ensures ∙ ap (elapsed_of_value a.clock.now) (ap (λ (p : Plain). p.origin) c.put_meter.ensures.means) in
     record {
