@@ -4,6 +4,7 @@
 ghost use Rattle.meter.specs.View.{plain_meter};
 ghost use Rattle.list_write.specs.Record.{record_for};
 ghost use Rattle.list_write.specs.ProgramRecord.{IsRest};
+ghost use Rattle.list_write.specs.View.{held};
 
 use front::front_of;
 use keys::{fault_key, medium_key};
@@ -26,7 +27,7 @@ pub type Rest = Written<REST>;
 
 // The record of a meter, for a list that is to be opened at this bus baud.
 pub fn rest_of(bus: u32, m: Meter) -> Rest
-    ensures { IsRest (record_for bus (plain_meter m)) result }
+    ensures { IsRest (record_for bus (plain_meter m)) (held result) }
 {
     let medium = Medium {
         code: m.built.medium,

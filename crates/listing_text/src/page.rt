@@ -5,7 +5,7 @@ ghost use Rattle.listing_text.specs.Text.{room};
 use crate::TEXT;
 
 // `len` bytes are written, the others are as they were lent. Some clauses begin at 0, since their text is the first.
-#[derive(Drop)]
+#[derive(Clone, Copy)]
 pub struct Page {
     pub bytes: [u8; TEXT],
     pub len: usize,

@@ -3,7 +3,7 @@ ghost use Rattle.std.specs.Prelude.{◌≡◌};
 ghost use Rattle.meter.specs.Meter.{flaky, hears, offered, reset, with_primary_value, with_baud_value, with_selected_value, with_hears_next, with_standing_value, with_counters_value};
 ghost use Rattle.meter.specs.View.{plain_meter};
 
-use super::{Fault, Meter};
+use super::{Fault, Meter, State};
 
 fn is_flaky(f: Fault) -> bool
     ensures { result ≡ flaky f }
@@ -40,12 +40,16 @@ impl Meter {
         self
     }
 
-    // Another part, and another last FCB.
+    // Another part, and another last FCB. The state is made anew: with an assignment for each, a telegram that commands 64
+    // meters takes more than twice the time.
     pub fn with_standing(mut self, part: u8, last: Option<bool>) -> Meter
         ensures { plain_meter result ≡ with_standing_value (part, last) (plain_meter self) }
     {
-        self.state.part = part;
-        self.state.last = last;
+        self.state = State {
+            part,
+            last,
+            ..self.state
+        };
         self
     }
 

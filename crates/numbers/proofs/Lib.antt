@@ -1,4 +1,5 @@
 pub mod ReciprocalLaws
+pub mod ProductLaws
 pub mod ValueLaws
 pub mod Worked
 pub mod NumberLaws

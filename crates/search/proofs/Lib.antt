@@ -17,3 +17,4 @@ pub mod PackStart
 pub mod MadeLaws
 pub mod SearchCoreLaws
 pub mod LentLaws
+pub mod ListedLaws

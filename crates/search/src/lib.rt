@@ -4,12 +4,14 @@
 
 ghost use Rattle.std.specs.Prelude.{◌≡◌};
 ghost use Rattle.segment_image.specs.Image.{decode_image};
+ghost use Rattle.search_packed.specs.ProgramPacked.{walking_of};
 ghost use Rattle.search.specs.SearchCall.{is_empty};
-ghost use Rattle.search.specs.View.{blank_record, error_number, SearchesInto};
+ghost use Rattle.search.specs.View.{blank_record, error_number, SearchesInto, SearchesIn};
 ghost use Rattle.search.specs.ProgramSearch.{Walks};
 
 use laws::answer::Numbered;
 use search_packed::{Walk, walk_all};
+use segment::METERS;
 use segment_image::IMAGE;
 use segment_places::head;
 use time_clock::{Clock, good_clock};
@@ -85,7 +87,7 @@ fn is_empty(image: &[u8; IMAGE]) -> bool
 
 // The meters packed, the walk over them, and the meters put back as it leaves them.
 fn walk_packed(image: &mut [u8; IMAGE], allowance: u32) -> Walk
-    ensures { Walks image.old allowance result image.new }
+    ensures { Walks image.old allowance (walking_of result) image.new }
 {
     let packed = pack::packed_of(image);
     let walk = walk_all(packed.keys, packed.marks, allowance);
@@ -118,5 +120,34 @@ pub fn search(
         count: walk.found,
         probes: walk.probes,
         spent: walk.spent,
+    })
+}
+
+// What a search with its entries by value answers: the first `count` entries are those found.
+#[derive(Clone, Copy)]
+pub struct Entries {
+    pub entries: [EntryRecord; METERS],
+    pub count: usize,
+    pub probes: u32,
+    pub spent: bool,
+}
+
+// A search that gives its entries by value: it lends records of its own, as many as the caller has room for, and no more
+// than a segment has meters.
+pub fn search_listed(
+    image: &mut [u8; IMAGE],
+    clock: Clock,
+    allowance: u32,
+    room: usize,
+) -> Result<Entries, SearchError>
+    ensures { SearchesIn image.old clock allowance room result image.new }
+{
+    let mut records = [EntryRecord::default(); METERS];
+    let found = search(image, clock, allowance, &mut records[..room.min(METERS)])?;
+    Ok(Entries {
+        entries: records,
+        count: found.count,
+        probes: found.probes,
+        spent: found.spent,
     })
 }

@@ -4,6 +4,7 @@
 -- 0; in front is what is above 2^32.
 use Rattle.std.specs.Prelude.{◌≡◌, ℕ, zero, suc, ◌+◌, ◌*◌, Bool, true, false, List, [], ◌∷◌, ◌++◌, length, take, Option, None, Some, ◌==◌, nat_le, nat_lt, if◌then◌else◌}
 use Rattle.list_open.specs.Opening.{capacity}
+use Rattle.search_packed.specs.declared.walk.Walk.{Walk}
 use Rattle.search_packed.specs.ProgramMarks.{masked, acked, read_key_value, read_by, swept_by, fold_by}
 
 -- where a walk stands
@@ -22,6 +23,10 @@ pub record Walking : Type 0 where
 unfoldable pub walking : List ℕ → List ℕ → ℕ → List ℕ → ℕ → ℕ → Bool → Walking
 walking ks ss allowance es found probes spent =
     record { keys = ks; allowance = allowance; run = record { entries = take found es; probes = probes; spent = spent; marks = ss } }
+
+-- a walk, without the places past those found
+abbrev pub walking_of : Walk → Walking
+walking_of w = walking w.keys w.marks w.allowance w.entries w.found w.probes w.spent
 
 -- the same walk, when it stands at t
 abbrev pub goes_to : Walking → PackedRun → Walking

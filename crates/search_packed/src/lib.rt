@@ -2,7 +2,7 @@
 #![tactic(auto)]
 
 ghost use Rattle.std.specs.Prelude.{◌≡◌};
-ghost use Rattle.search_packed.specs.ProgramPacked.{walk_all_value};
+ghost use Rattle.search_packed.specs.ProgramPacked.{walking_of, walk_all_value};
 
 use list_open::METERS;
 pub use walk::Walk;
@@ -13,7 +13,7 @@ mod walk; // walk.rt: probe and row
 
 // The walk from the mask with no digit: all eight are unknown, so that it is the mask of all ids.
 pub fn walk_all(keys: [u32; METERS], marks: [u32; METERS], allowance: u32) -> Walk
-    ensures { result ≡ walk_all_value keys marks allowance }
+    ensures { walking_of result ≡ walk_all_value keys marks allowance }
 {
     let mut walk = Walk {
         keys,

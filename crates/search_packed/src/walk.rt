@@ -3,16 +3,15 @@
 // An entry is one number: the id with the E5 counted in front of it (one: 1), or a mute's mask, F for unknown, with 0.
 ghost use Rattle.std.specs.Prelude.{◌≡◌, ℕ, ◌+◌, ◌*◌, ◌<◌, ◌≤◌};
 ghost use Rattle.list_open.specs.Opening.{capacity};
-ghost use Rattle.search_packed.specs.ProgramPacked.{Walking, Asked, walking, goes_to, packed_note, packed_walk, packed_row, span_of};
 
 use crate::marks::{read_selected, send_mask};
 use list_open::METERS;
-use std::marker::Model;
 
 // A walk: the meters' keys and their marks, how many probes it may send, the entries it has found, and where it stands.
 // The first `found` entries are those found: the memory is fixed, at most an entry a meter. Keys and marks are two arrays,
-// so that a sweep is vectorised.
-#[derive(Drop)]
+// so that a sweep is vectorised. That no more are found than have a place is a ghost field, and no `Model`: a struct whose view
+// leaves out the places past `found` can't be `Copy`.
+#[derive(Clone, Copy)]
 pub struct Walk {
     pub keys: [u32; METERS],
     pub marks: [u32; METERS],
@@ -21,21 +20,16 @@ pub struct Walk {
     pub found: usize,
     pub probes: u32,
     pub spent: bool,
-}
-
-impl Model for Walk {
-    ghost Value = { Walking };
-
-    ghost view = { λ w. walking w.keys w.marks w.allowance w.entries w.found w.probes w.spent };
-
-    ghost invariant = { λ w. w.found ≤ capacity };
+    pub ghost fits: { found ≤ capacity },
 }
 
 impl Walk {
+    ghost use Rattle.search_packed.specs.ProgramPacked.{walking_of, Asked, goes_to, packed_note, packed_walk, packed_row, span_of};
+
     // One entry more. There is always room for it: entries are never more than meters (search_walk,
     // proofs/Fits.antt, `walk-fits-meters`).
     fn push(&mut self, entry: u64)
-        ensures { self.new ≡ goes_to self.old (packed_note entry self.old.run.marks self.old.run) }
+        ensures { walking_of self.new ≡ goes_to (walking_of self.old) (packed_note entry (walking_of self.old).run.marks (walking_of self.old).run) }
     {
         if self.found < METERS {
             self.entries[self.found] = entry;
@@ -47,7 +41,7 @@ impl Walk {
     // where several do.
     fn probe_and_read(&mut self, low: u32, high: u32) -> Option<u32>
         requires { low ≤ high }
-        ensures { Asked self.old low high result self.new }
+        ensures { Asked (walking_of self.old) low high result (walking_of self.new) }
     {
         self.spent = self.allowance <= self.probes;
         if self.spent {
@@ -69,7 +63,7 @@ impl Walk {
     #[cycle(probe_row)]
     pub(crate) fn probe(&mut self, unknown: usize, low: u32, span: u32)
         requires { (span ≡ span_of unknown) × (low + span < 0x100000000) }
-        ensures { self.new ≡ goes_to self.old (packed_walk self.old.keys self.old.allowance unknown low self.old.run) }
+        ensures { walking_of self.new ≡ goes_to (walking_of self.old) (packed_walk self.old.keys self.old.allowance unknown low (walking_of self.old).run) }
     {
         match self.probe_and_read(low, low + span) {
             None => {}
@@ -82,7 +76,7 @@ impl Walk {
     #[cycle(probe_row)]
     fn row(&mut self, below: usize, low: u32, span: u32)
         requires { (span ≡ span_of below) × (low + 16 * span + 15 < 0x100000000) }
-        ensures { self.new ≡ goes_to self.old (packed_row (packed_walk self.old.keys self.old.allowance below) (span + 1) 10 low self.old.run) }
+        ensures { walking_of self.new ≡ goes_to (walking_of self.old) (packed_row (packed_walk self.old.keys self.old.allowance below) (span + 1) 10 low (walking_of self.old).run) }
     {
         let mut first = low;
         for _digit in 0..10u32 {

@@ -4,6 +4,7 @@
 ghost use Rattle.std.specs.Prelude.{◌≡◌, [], ◌∷◌, ◌++◌, ◌+◌, ◌/◌, ◌%◌, ◌≤◌, ◌<◌, length, drop};
 ghost use Rattle.meter.specs.View.{plain_meter};
 ghost use Rattle.list_write.specs.Record.{record_for};
+ghost use Rattle.list_write.specs.View.{held};
 ghost use Rattle.segment_image.specs.Image.{decode_image};
 ghost use Rattle.segment_export.specs.Export.{any_above250, export_into_value};
 ghost use Rattle.segment_export.specs.ProgramExport.{AppendsRecord, RecordsWritten};
@@ -47,7 +48,7 @@ fn any_above_250(image: &[u8; IMAGE]) -> bool
 
 // The record of a meter, whatever its baud, behind those before it.
 fn append_meter(records: &mut Written<RECORDS>, bus: u32, m: Meter)
-    ensures { AppendsRecord (record_for bus (plain_meter m)) records.old records.new }
+    ensures { AppendsRecord (record_for bus (plain_meter m)) (held records.old) (held records.new) }
 {
     let rest = list_write::rest_of(bus, m);
     records.push_record(rest.as_slice());
@@ -55,7 +56,7 @@ fn append_meter(records: &mut Written<RECORDS>, bus: u32, m: Meter)
 
 // The records of the meters, in segment order: an image is read by place.
 fn write_records(image: &[u8; IMAGE]) -> Written<RECORDS>
-    ensures { RecordsWritten (decode_image image.now) result }
+    ensures { RecordsWritten (decode_image image.now) (held result) }
 {
     let bus = head::baud_of(image);
     let mut records = Written::new();

@@ -4,11 +4,8 @@ use mathlib.Core.List.{List, [], ◌∷◌, ◌++◌, map, map-append}
 use Prim.Native.Nat.{ℕ, zero, suc, ◌+◌, ◌*◌, ◌≤◌, ◌<◌}
 use native.Mathlib.Numerals.{add-one}
 use native.Mathlib.Omega.{arith}
-use lib.ListN.{length, take, drop, get_or, length-drop, length-append}
-use lib.Seq.{paste, take-append-le, drop-drop, take-take, take_all, take-suc, take-length, length-paste}
-use Rattle.std.specs.Fn.{Called}
-use Rattle.std.specs.Array.{IsFromFnResult, IsFromFnResultFrom}
-use denote.Param.Members.{Mut}
+use lib.ListN.{length, take, drop, set, get_or, length-drop, length-append}
+use lib.Seq.{paste, take-append-le, drop-drop, take-take, take_all, take-suc, take-suc-set, take-length, length-paste}
 use Rattle.laws.specs.Words.{each}
 use Rattle.std.proofs.lemmas.List.{drop-take}
 use Rattle.laws.proofs.Rows.{Rows, rows_begin, rows_more, rows_map}
@@ -42,29 +39,24 @@ meters_same (suc i) l k e h m =
     (meters_same i (drop 25 l) (drop 25 k) (sym (drop-take 25 (25 * i) l) ∙ ap (drop 25) f ∙ drop-take 25 (25 * i) k) (rw length-drop (omega arith))
     (rw length-drop (omega arith)))
 
--- an array made by a closure of the place, which a call leaves as it was: each element is what a call gives
-module _ {F B : Type 0} {g : Mut F (ℕ × Unit {0}) B} {f : F} (P : ℕ → B → Type 0) (same : (i : ℕ) (y : B) (q : F) → Called g f (i, tt) y q → P i y × (q ≡ f)) where
-  made_from : (k n i : ℕ) (ys : List B) (d : B) → IsFromFnResultFrom g f ys i n → k < n → P (i + k) (get_or ys (i + k) d)
-  made_from k zero i ys d r h = absurd (omega arith)
-  made_from zero (suc n) i ys d r h =
-      let e : i ≡ i + 0 = omega arith in
-      subst (λ (j : ℕ). P j (get_or ys j d)) e (subst (P i) (sym (r.2.1 d)) (same i r.1 r.0 r.3).0)
-  made_from (suc k) (suc n) i ys d r h =
-      let e : i + 1 + k ≡ i + suc k = omega arith in
-      let rest : IsFromFnResultFrom g f ys (i + 1) n = subst (λ (x : F). IsFromFnResultFrom g x ys (i + 1) n) (same i r.1 r.0 r.3).1 r.4 in
-      subst (λ (j : ℕ). P j (get_or ys j d)) e (made_from k n (i + 1) ys d rest (omega arith))
+-- the first i meters are read from bs into ms
+pub record Got (bs : List ℕ) (i : ℕ) (ms : List Meter) : Type 0 where
+  pub is : map plain_meter (take i ms) ≡ meters i bs
 
-  pub made_each : {n : ℕ} {ys : List B} (k : ℕ) (d : B) → IsFromFnResult g f ys n → k < n → P k (get_or ys k d)
-  made_each {n} {ys} k d r h = let e : 0 + k ≡ k = omega arith in subst (λ (j : ℕ). P j (get_or ys j d)) e (made_from k n 0 ys d r.each h)
+module _ {bs : List ℕ} where
+  pub got_none : {ms : List Meter} → Got bs 0 ms
+  got_none = record { is = unfold meters in refl }
 
--- the first n meters are read from bs into ms
-pub meters_read : (bs : List ℕ) (ms : List Meter) (d : Meter) (n : ℕ) → n ≤ length ms
-    → ((i : ℕ) → i < n → plain_meter (get_or ms i d) ≡ decode_meter (block (25 * i) 25 bs))
-    → map plain_meter (take n ms) ≡ meters n bs
-meters_read bs ms d zero h each = unfold meters in refl
-meters_read bs ms d (suc n) h each =
-    rw (take-suc ms n d (omega arith), map-append plain_meter (take n ms) (get_or ms n d ∷ []), meters_read bs ms d n (omega arith) (λ i m. each i (omega arith)))
-    (ap (λ (x : PlainMeter). meters n bs ++ (x ∷ [])) (each n (omega arith)) ∙ sym (meters_more n bs))
+  pub got_more : {i : ℕ} {ms : List Meter} (m : Meter) → Got bs i ms → i < length ms → plain_meter m ≡ decode_meter (block (25 * i) 25 bs) → Got bs (i + 1) (set ms i m)
+  got_more {i} {ms} m g h e =
+      record {
+        is =
+            rw (add-one, take-suc-set ms i m h, map-append plain_meter (take i ms) (m ∷ []), g.is)
+            (ap (λ (x : PlainMeter). meters i bs ++ (x ∷ [])) e ∙ sym (meters_more i bs));
+      }
+
+  pub got_all : {i : ℕ} {ms : List Meter} (n : ℕ) → Got bs i ms → i ≡ n → map plain_meter (take n ms) ≡ meters n bs
+  got_all {i} {ms} n g e = subst (λ (k : ℕ). map plain_meter (take k ms) ≡ meters k bs) e g.is
 
 abbrev bytes : Meter → List ℕ
 bytes m = encode_meter (plain_meter m)

@@ -6,14 +6,13 @@ ghost use Rattle.std.specs.Prelude.{◌≡◌, map, ◌++◌, ◌+◌, ◌*◌, 
 ghost use Rattle.laws.specs.Words.{each};
 ghost use Rattle.list_open.specs.Opening.{capacity};
 ghost use Rattle.meter.specs.View.{plain_meter};
-ghost use Rattle.segment_image.specs.MeterBytes.{decode_meter, encode_meter};
+ghost use Rattle.segment_image.specs.MeterBytes.{encode_meter};
 ghost use Rattle.segment.specs.View.{plain_of};
 ghost use Rattle.segment_image.specs.Image.{block, meters, decode_image, Head, head_bytes_value, IsImage};
 
 use copying::bytes_at;
 use meter::Meter;
 use segment::{INPUT, METERS, QUEUE, Segment};
-use std::array;
 
 pub mod meters; // meters.rt: a meter as 25 bytes
 mod copying; // copying.rt: bytes out of a place, and blocks of bytes into one
@@ -43,25 +42,18 @@ pub const IMAGE: usize = METERS_AT + METER * METERS;
 
 // ---- the meters
 
-// The meter at the place i, if it is one of the first count; else a blank one.
-fn meter_or_blank(bs: &[u8], count: usize, i: usize) -> Meter
-    requires { (length bs.now ≡ 25 * capacity) × (count ≤ capacity) }
-    ensures { i < count → plain_meter result ≡ decode_meter (block (25 * i) 25 bs.now) }
-{
-    if i < count {
-        let p = METER * i;
-        meters::read_meter(&bs[p..p + METER])
-    } else {
-        Meter::default()
-    }
-}
-
-// The first count meters; the others are blank.
+// The first count meters; the others are blank. A `for` into one array: `array::from_fn` makes 64 turns whatever the
+// count is, and keeps four such arrays on the stack at once.
 fn read_meters(bs: &[u8], count: usize) -> [Meter; METERS]
     requires { (length bs.now ≡ 25 * capacity) × (count ≤ capacity) }
     ensures { map plain_meter (take count result) ≡ meters count bs.now }
 {
-    array::from_fn(|i| meter_or_blank(bs, count, i))
+    let mut meters = [Meter::default(); METERS];
+    for i in 0..count {
+        let p = METER * i;
+        meters[i] = meters::read_meter(&bs[p..p + METER]);
+    }
+    meters
 }
 
 // Meters, one behind the other from the front on.

@@ -7,15 +7,13 @@ use crate::METER;
 use crate::copying::bytes_at;
 use meter::{Built, Fault, Meter, Model, State};
 
-// The last FCB by its byte, and its byte: no impl of `From` may lie between types that are both std's.
+// The last FCB by its byte, and its byte: no impl of `From` may lie between types that are both std's. The first is an
+// `if`: a `match` of three arms keeps its jumps in the loop over an image's meters, and a `tidy` of 64 takes a sixth more
+// time.
 fn last(b: u8) -> Option<bool>
     ensures { result ≡ last_by b }
 {
-    match b {
-        0 => None,
-        1 => Some(false),
-        _ => Some(true),
-    }
+    if b == 0 { None } else { Some(b != 1) }
 }
 
 fn last_byte(last: Option<bool>) -> u8

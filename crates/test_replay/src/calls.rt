@@ -4,8 +4,7 @@ use crate::hex::Hex;
 use crate::show;
 use laws::answer;
 use laws::answer::Numbered;
-use search::{EntryRecord, search};
-use segment::METERS;
+use search::search_listed;
 use segment_image::IMAGE;
 use time_clock::Clock;
 
@@ -75,12 +74,11 @@ pub(crate) fn find(
     allowance: u32,
     lent: usize,
 ) {
-    let mut records = [EntryRecord::default(); METERS];
-    match search(image, clock, allowance, &mut records[..lent.min(METERS)]) {
+    match search_listed(image, clock, allowance, lent) {
         Ok(found) => {
             let spent = u8::from(found.spent);
             let _ = println!(rt; "search 0 {} {} {spent}", found.count, found.probes);
-            for e in &records[..found.count.min(METERS)] {
+            for e in &found.entries[..found.count] {
                 show::entry(rt, e);
             }
         }

@@ -1,11 +1,10 @@
-use mathlib.Core.Path.{◌≡◌, sym, subst}
+use mathlib.Core.Path.{◌≡◌}
 use native.Mathlib.Omega.{arith}
 use borrow.Author.Rules.{rules}
 use lib.ListN.{length}
 use lib.Seq.{length-take-le}
 use Rattle.list_open.specs.Opening.{capacity}
-use Rattle.search_packed.specs.ProgramPacked.{Walking, walking}
-use Rattle.search.specs.ProgramSearch.{Walks}
+use Rattle.search_packed.specs.ProgramPacked.{walking}
 use Rattle.search.proofs.SearchCoreLaws.{refused_clock_lem, refused_waiting, refused_few, lent_enough, made_search}
 use Rattle.search.proofs.search.Goals as goal
 
@@ -26,7 +25,7 @@ returns-then-entries-count_of c =
 
 pub shared_ref_as_front-write_records : goal.shared_ref_as_front-write_records
 unfolding capacity
-shared_ref_as_front-write_records c = omega (arith, c.walk.invariant)
+shared_ref_as_front-write_records c = omega (arith, c.walk_packed-walk.result.fits)
 
 pub write_records-requires : goal.write_records-requires
 unfolding walking
@@ -34,15 +33,14 @@ write_records-requires c =
     let a = c.args in
     let w = c.walk_packed-walk in
     lent_enough a.image.now a.clock a.allowance a.entries.now c.good_clock.ensures c.if-not-good_clock.false-raw c.is_empty.ensures c.if-not-is_empty.false-raw c.count_of.ensures
-    _ _ c.if-entries-count_of.false (subst (λ (v : Walking). Walks a.image.now a.allowance v w.new.image) (sym c.walk.view_is) w.ensures)
+    _ _ c.if-entries-count_of.false w.ensures
 
 pub returns : goal.returns
 unfolding walking capacity
 returns c =
     let a = c.args in
     let w = c.walk_packed-walk in
-    let q = c.walk.inside in
+    let q = w.result in
     let room : length q.entries ≡ capacity = search rules in
     made_search a.image.now a.clock a.allowance a.entries.now c.good_clock.ensures c.if-not-good_clock.false-raw c.is_empty.ensures c.if-not-is_empty.false-raw c.count_of.ensures
-    _ _ _ _ c.if-entries-count_of.false (subst (λ (v : Walking). Walks a.image.now a.allowance v w.new.image) (sym c.walk.view_is) w.ensures)
-    (omega (arith, c.walk.invariant, room, length-take-le q.found q.entries)) c.write_records.ensures
+    _ _ _ _ c.if-entries-count_of.false w.ensures (omega (arith, q.fits, room, length-take-le q.found q.entries)) c.write_records.ensures
