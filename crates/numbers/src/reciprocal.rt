@@ -4,11 +4,25 @@
 // divide by what is no number, which `.ci/divisors` refuses.
 ghost use Rattle.std.specs.Prelude.{◌≡◌, ◌*◌, ◌/◌, ◌<◌, ◌≤◌};
 
-// The upper 64 bits of a product of 128.
+// A product of numbers of 32 bits: 64 have room for two such numbers more.
+fn product(a: u64, b: u64) -> u64
+    requires { (a < 4294967296) × (b < 4294967296) }
+    ensures { (result ≡ a * b) × (result ≤ 18446744065119617025) }
+{
+    a * b
+}
+
+// The upper 64 bits of a product of 128, from the products of the factors' halves.
 fn upper(x: u64, m: u64) -> u64
     ensures { result ≡ x * m / 18446744073709551616 }
 {
-    ((x as u128 * m as u128) >> 64) as u64
+    let x0 = x % 4294967296;
+    let x1 = x / 4294967296;
+    let m0 = m % 4294967296;
+    let m1 = m / 4294967296;
+    let t = product(x1, m0) + product(x0, m0) / 4294967296;
+    let u = product(x0, m1) + t % 4294967296;
+    product(x1, m1) + t / 4294967296 + u / 4294967296
 }
 
 // Without the last digit: shift 10, exact to 7 bits.
